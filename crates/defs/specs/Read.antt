@@ -1,0 +1,37 @@
+-- What the slip reader answers, and what it leaves in the points and the row, for every input.
+use Prim.Native.Nat.{ℕ, _*_}
+use mathlib.Core.Path.{_≡_}
+use mathlib.Core.Bool.{_||_, not}
+use mathlib.Core.List.{List}
+use lib.Dec.{eqb, ltb}
+use lib.ListN.{length}
+use Rattle.defs.specs.Refusal.{refuse, andThen, kept}
+use Rattle.defs.specs.Limits.{numbersVerdict, firstTwice}
+use Rattle.defs.specs.Slip.{editionIn, widthIn, depthIn, countIn, dimensionIn, sizeIn, pointsIn, rowIn}
+use Rattle.defs.specs.Write.{front}
+use Rattle.defs.specs.declared.Refusal.the-variants.{PointTwice, Length, SlipShort, Edition, SlipLong}
+use Rattle.defs.specs.declared.Verdict.{Verdict}
+use Rattle.defs.specs.declared.Verdict.the-variants.{Fine, Refused}
+use Rattle.defs.specs.declared.Answer.the-variants.{Done, Refused as No}
+use Rattle.defs.specs.declared.SlipRead.{SlipRead}
+
+-- 10, 11, 1, 3, 4, 10, 12, 6, 7; the two numbers are the lengths of the point buffer and of the row buffer
+unfoldable pub readVerdict : List ℕ → ℕ → ℕ → Verdict
+readVerdict bytes count n =
+    refuse (ltb (length bytes) 3) SlipShort
+    (refuse (not (eqb (editionIn bytes) 1)) Edition
+    (andThen (numbersVerdict (widthIn bytes) (depthIn bytes) (dimensionIn bytes) (countIn bytes))
+    (refuse (ltb (length bytes) (sizeIn bytes)) SlipShort
+    (refuse (ltb (sizeIn bytes) (length bytes)) SlipLong
+    (refuse (ltb (firstTwice (pointsIn bytes)) (countIn bytes)) (PointTwice (firstTwice (pointsIn bytes)))
+    (refuse (ltb count (countIn bytes) || ltb n (depthIn bytes * countIn bytes)) Length Fine))))))
+
+-- done, with the code's numbers, or refused, with 0 for each
+unfoldable pub reading : Verdict → List ℕ → SlipRead
+reading Fine bytes = record { answer = Done 0; m = widthIn bytes; r = depthIn bytes; count = countIn bytes; k = dimensionIn bytes }
+reading (Refused x) bytes = record { answer = No x; m = 0; r = 0; count = 0; k = 0 }
+
+pub record Read (bytes points row : List ℕ) (s : SlipRead) (points′ row′ : List ℕ) : Type 0 where
+  pub answers : s ≡ reading (readVerdict bytes (length points) (length row)) bytes
+  pub leaves-points : points′ ≡ kept (readVerdict bytes (length points) (length row)) (front (pointsIn bytes) points) points
+  pub leaves-row : row′ ≡ kept (readVerdict bytes (length points) (length row)) (front (rowIn bytes) row) row

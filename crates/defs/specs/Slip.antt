@@ -1,0 +1,62 @@
+-- Slips, edition 1: bit-packed, the most significant bit first.
+use Prim.Native.Nat.{ℕ, zero, suc, _+_, _*_, _-_, _/_, _%_, _^_}
+use mathlib.Core.List.{List, [], _∷_, _++_}
+use lib.ListN.{length, getD}
+use Rattle.defs.specs.Place.{tab}
+
+-- the w low bits of x
+unfoldable pub bits : ℕ → ℕ → List ℕ
+bits zero x = []
+bits (suc w) x = x / 2 ^ w % 2 ∷ bits w x
+
+-- the bits of numbers of w bits each, one behind another
+unfoldable pub allBits : ℕ → List ℕ → List ℕ
+allBits w [] = []
+allBits w (x ∷ s) = bits w x ++ allBits w s
+
+-- the number that w bits make, from place p on; past the end stands 0
+unfoldable pub numberAt : ℕ → ℕ → List ℕ → ℕ
+numberAt zero p s = 0
+numberAt (suc w) p s = getD s p 0 * 2 ^ w + numberAt w (suc p) s
+
+-- edition, field (0, 1, 2 for m of 2, 4, 8), r - 1, n' - 1, k - 1 and the spare bit: 24 bits
+unfoldable pub headerBits : ℕ → ℕ → ℕ → ℕ → List ℕ
+headerBits m r k count = bits 4 1 ++ (bits 2 (m / 4) ++ (bits 3 (r - 1) ++ (bits 7 (count - 1) ++ (bits 7 (k - 1) ++ bits 1 0))))
+
+-- the bytes of a slip with so many points and symbols in all
+unfoldable pub slipSize : ℕ → ℕ → ℕ
+slipSize m symbols = 3 + (symbols * m + 7) / 8
+
+-- the slip: header, points and row in bits, eight of them to a byte
+unfoldable pub slipOf : ℕ → ℕ → ℕ → List ℕ → List ℕ → List ℕ
+slipOf m r k points w =
+    tab (λ i. numberAt 8 (8 * i) (headerBits m r k (length points) ++ allBits m (points ++ w))) (slipSize m (length points + length w))
+
+-- what stands in bytes that are read as a slip
+unfoldable pub editionIn : List ℕ → ℕ
+editionIn bytes = numberAt 4 0 (allBits 8 bytes)
+
+unfoldable pub widthIn : List ℕ → ℕ
+widthIn bytes = 2 ^ (numberAt 2 4 (allBits 8 bytes) + 1)
+
+unfoldable pub depthIn : List ℕ → ℕ
+depthIn bytes = numberAt 3 6 (allBits 8 bytes) + 1
+
+unfoldable pub countIn : List ℕ → ℕ
+countIn bytes = numberAt 7 9 (allBits 8 bytes) + 1
+
+unfoldable pub dimensionIn : List ℕ → ℕ
+dimensionIn bytes = numberAt 7 16 (allBits 8 bytes) + 1
+
+unfoldable pub sizeIn : List ℕ → ℕ
+sizeIn bytes = slipSize (widthIn bytes) (countIn bytes + depthIn bytes * countIn bytes)
+
+-- n symbols behind the header, past the first ones
+unfoldable pub symbolsIn : List ℕ → ℕ → ℕ → List ℕ
+symbolsIn bytes past n = tab (λ j. numberAt (widthIn bytes) (24 + widthIn bytes * (past + j)) (allBits 8 bytes)) n
+
+unfoldable pub pointsIn : List ℕ → List ℕ
+pointsIn bytes = symbolsIn bytes 0 (countIn bytes)
+
+unfoldable pub rowIn : List ℕ → List ℕ
+rowIn bytes = symbolsIn bytes (countIn bytes) (depthIn bytes * countIn bytes)

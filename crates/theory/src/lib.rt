@@ -1,0 +1,1 @@
+// No function: the laws of the definitions are in proofs/.
