@@ -22,7 +22,7 @@ use Rattle.defs.specs.declared.Answer.the-variants.{Done, Refused as No}
 -- a number below 10 ^ d in decimal, without leading zeros
 unfoldable pub digits : ℕ → ℕ → List ℕ
 digits zero x = []
-digits (suc d) x = cond (ltb x 10) (48 + x ∷ []) (digits d (x / 10) ++ (48 + x % 10 ∷ []))
+digits (suc d) x = cond (ltb x 10) ((48 + x) ∷ []) (digits d (x / 10) ++ ((48 + x % 10) ∷ []))
 
 -- a machine word has at most 20 digits
 unfoldable pub decimal : ℕ → List ℕ
