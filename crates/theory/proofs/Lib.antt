@@ -1,2 +1,4 @@
 -- The laws of the definitions.
 pub mod Field
+pub mod Place
+pub mod Fill

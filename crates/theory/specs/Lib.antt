@@ -1,0 +1,2 @@
+-- The theory's own definitions, which no contract cites.
+pub mod Fill
