@@ -3,3 +3,7 @@ pub mod Field
 pub mod Place
 pub mod Fill
 pub mod Limits
+pub mod Sum
+pub mod Linear
+pub mod Leibniz
+pub mod Divide
