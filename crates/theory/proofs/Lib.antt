@@ -7,3 +7,6 @@ pub mod Sum
 pub mod Linear
 pub mod Leibniz
 pub mod Divide
+pub mod Formula
+pub mod Multiply
+pub mod Product
