@@ -11,3 +11,6 @@ pub mod Divide
 pub mod Formula
 pub mod Multiply
 pub mod Product
+pub mod Count
+pub mod Agree
+pub mod Chunks
