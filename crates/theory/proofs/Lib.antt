@@ -16,3 +16,5 @@ pub mod Agree
 pub mod Chunks
 pub mod Differ
 pub mod Equation
+pub mod Row
+pub mod Distance
