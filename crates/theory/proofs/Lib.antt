@@ -18,3 +18,4 @@ pub mod Differ
 pub mod Equation
 pub mod Row
 pub mod Distance
+pub mod Demand3

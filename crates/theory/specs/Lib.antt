@@ -5,3 +5,4 @@ pub mod Poly
 pub mod Vanish
 pub mod Chunks
 pub mod Key
+pub mod Demand3
