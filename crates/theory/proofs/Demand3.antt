@@ -141,8 +141,8 @@ module _ (m r k : ℕ) (points : List ℕ) (inside : Inside m r k points) where
       let c : ℕ = (k + r - 1) / r in
       let enough : k ≤ r * c = omega (arith, lt-mul-div-succ (k + r - 1) (limits .numbers .r-pos)) in
       let fits : c < suc count =
-          div-lt-iff-lt-mul {k = r} (limits .numbers .r-pos) .1
-          (omega (arith, suc-mul count r, mul-comm count r, limits .numbers .r-pos, limits .numbers .k-top)) in
+      div-lt-iff-lt-mul {k = r} (limits .numbers .r-pos) .1
+      (omega (arith, suc-mul count r, mul-comm count r, limits .numbers .r-pos, limits .numbers .k-top)) in
       let le : (e + e + c) * r ≤ count * r = mul-le-mul-right r (omega arith) in
       record {
         message = p;

@@ -93,5 +93,5 @@ module _ (m : ℕ) (width : Width m) (P r : ℕ → ℕ) (n : ℕ) (low : (i : �
           depth,
           at-least g z,
           agree-less (suc N) sharpest g sharpest-symbols o (deg-length (suc N) sharpest (le-of-eq (sharpest-monic .size))) (λ i l. z i)
-          (λ e. omega (arith, sharpest-monic .top, e N, z N)),
+              (λ e. omega (arith, sharpest-monic .top, e N, z N)),
         )

@@ -65,17 +65,17 @@ module _ (m : ℕ) (width : Width m) (P r : ℕ → ℕ) (n : ℕ) (w : ℕ → 
         → (Q₀ : List ℕ) × (Q₁ : List ℕ) × Solution m P r n k t w Q₀ Q₁ × (Zero Q₁ → ⊥)
     unfolding apart agreed damaged locator
     near-exists k t d near = (
-          pmul m f locator,
-          locator,
-          record {
-            symbols₀ = pmul-symbols m f locator;
-            symbols₁ = product-symbols m P damaged n (one-lt m width);
-            deg₀ = λ i l. pmul-deg m k (total n damaged) f locator d locator-deg i (omega arith);
-            deg₁ = λ i l. locator-deg i (omega arith);
-            key = locate;
-          },
-          locator-ne,
-        )
+      pmul m f locator,
+      locator,
+      record {
+        symbols₀ = pmul-symbols m f locator;
+        symbols₁ = product-symbols m P damaged n (one-lt m width);
+        deg₀ = λ i l. pmul-deg m k (total n damaged) f locator d locator-deg i (omega arith);
+        deg₁ = λ i l. locator-deg i (omega arith);
+        key = locate;
+      },
+      locator-ne,
+    )
 
   module _ (low : (i : ℕ) → i < n → P i < 2 ^ m) (ne : Distinct n P) (Q₀ Q₁ : List ℕ) where
     -- and in every solution Q₀ is f·Q₁, because the other zeros of Q₀ + f·Q₁ are more than its degree

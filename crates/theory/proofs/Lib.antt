@@ -19,3 +19,5 @@ pub mod Equation
 pub mod Row
 pub mod Distance
 pub mod Demand3
+pub mod Pair
+pub mod Quotient
