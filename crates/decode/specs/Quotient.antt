@@ -1,14 +1,15 @@
 -- Long division from the top, where the divisor's highest coefficient is known.
-use Prim.Native.Nat.{ℕ, suc, _+_, _-_, _<_, _≤_}
+use Prim.Native.Nat.{ℕ, suc, _+_, _-_, _^_, _<_, _≤_}
 use mathlib.Core.Path.{_≡_}
 use mathlib.Core.List.{List}
 use lib.ListN.{length, getD, take}
-use Rattle.defs.specs.Field.{add, mul}
+use Rattle.defs.specs.Field.{Width, add, mul}
 use Rattle.defs.specs.Place.{Symbols}
 use Rattle.defs.specs.Row.{Message}
+use Rattle.defs.specs.Pair.{Zero}
 use Rattle.defs.specs.Limits.{longest}
-use Rattle.theory.specs.Vanish.{Same}
 use Rattle.theory.specs.Poly.{pmul}
+use Rattle.theory.specs.Vanish.{Same}
 
 -- of the first size coefficients of q, those from c on are 0, and the one before is not
 pub record Terms (q : List ℕ) (size c : ℕ) : Type 0 where
@@ -16,9 +17,50 @@ pub record Terms (q : List ℕ) (size c : ℕ) : Type 0 where
   pub above : (i : ℕ) → c ≤ i → i < size → getD q i 0 ≡ 0
   pub top : 0 < c → getD q (c - 1) 0 ≡ 0 → ⊥
 
--- a x ^ at times the first c coefficients of q taken off rem
-pub record TakenOff (m a : ℕ) (q : List ℕ) (c at : ℕ) (rem rem′ : List ℕ) : Type 0 where
+-- c coefficients of q fit on rem, at places up
+pub record Fits (q : List ℕ) (c at : ℕ) (rem : List ℕ) : Type 0 where
+  pub long : c ≤ length q
+  pub room : at + c ≤ length rem
+
+-- what the products of the first c coefficients of q are was added to rem, at places up
+pub record TakenOff (products q : List ℕ) (c at : ℕ) (rem rem′ : List ℕ) : Type 0 where
+  pub size : length rem′ ≡ length rem
+  pub before : (p : ℕ) → p < at → getD rem′ p 0 ≡ getD rem p 0
+  pub off : (i : ℕ) → i < c → getD rem′ (at + i) 0 ≡ add (getD rem (at + i) 0) (getD products (getD q i 0) 0)
+  pub behind : (p : ℕ) → at + c ≤ p → getD rem′ p 0 ≡ getD rem p 0
+
+-- v is an element, and rem is to be divided by q, of c coefficients
+pub record Divisible (m v : ℕ) (q : List ℕ) (c at : ℕ) (rem : List ℕ) : Type 0 where
+  pub width : Width m
+  pub inverse : v < 2 ^ m
+  pub divisor : Symbols m q
+  pub dividend : Symbols m rem
+  pub some : 0 < c
+  pub fits : Fits q c at rem
+
+-- a is v times rem's coefficient over the top of q, and a x ^ at times q was taken off rem
+pub record Divided (m v : ℕ) (q : List ℕ) (c at : ℕ) (rem : List ℕ) (a : ℕ) (rem′ : List ℕ) : Type 0 where
+  pub is : a ≡ mul m (getD rem (at + (c - 1)) 0) v
+  pub small : a < 2 ^ m
+  pub symbols : Symbols m rem′
   pub size : length rem′ ≡ length rem
   pub before : (p : ℕ) → p < at → getD rem′ p 0 ≡ getD rem p 0
   pub off : (i : ℕ) → i < c → getD rem′ (at + i) 0 ≡ add (getD rem (at + i) 0) (mul m a (getD q i 0))
   pub behind : (p : ℕ) → at + c ≤ p → getD rem′ p 0 ≡ getD rem p 0
+
+-- the first size₀ and size₁ coefficients of q₀ and q₁ are a dividend and a divisor
+pub record Dividing (m k size₀ size₁ : ℕ) (q₀ q₁ : List ℕ) : Type 0 where
+  pub width : Width m
+  pub symbols₀ : Symbols m q₀
+  pub symbols₁ : Symbols m q₁
+  pub long₀ : length q₀ ≡ longest
+  pub long₁ : length q₁ ≡ longest
+  pub within₀ : size₀ ≤ longest
+  pub within₁ : size₁ ≤ longest
+  pub room : k + size₁ ≤ suc size₀
+
+-- the first k of f are the message whose product with the divisor the dividend is, where there is such a message
+pub record Quotient (m k size₀ size₁ : ℕ) (q₀ q₁ f : List ℕ) : Type 0 where
+  pub long : length f ≡ longest
+  pub symbols : Symbols m f
+  pub exact : (g : List ℕ) → Message m k g → (Zero (take size₁ q₁) → ⊥) → Same (take size₀ q₀) (pmul m g (take size₁ q₁)) → take k f ≡ g

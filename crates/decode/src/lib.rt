@@ -1,9 +1,8 @@
 // Decode: the quotient of a pair, what comes out measured against the row, and the call.
 ghost use mathlib.Core.Path.{_≡_};
-ghost use Prim.Native.Nat.{ℕ, _+_, _*_, _-_, _^_, _<_, _≤_};
-ghost use lib.ListN.{length, getD};
-ghost use Rattle.defs.specs.Limits.{longest};
-ghost use Rattle.decode.specs.Quotient.{Terms, TakenOff};
+ghost use Prim.Native.Nat.{_≤_};
+ghost use lib.ListN.{length};
+ghost use Rattle.decode.specs.Quotient.{Terms, Fits, TakenOff, Divisible, Divided, Dividing, Quotient};
 
 use defs::LONGEST;
 
@@ -21,3 +20,16 @@ fn terms(q: &[u8], size: usize) -> usize
     }
     c
 }
+
+// Takes a multiple of the first c coefficients of q off rem, at places up; products has the multiples.
+fn take_off(products: &[u8; 256], q: &[u8], c: usize, at: usize, rem: &mut [u8])
+    requires { ⌜ (length (now products) ≡ 256) × Fits (now q) c at (now rem) ⌝ }
+    ensures { λ _. ⌜ TakenOff (now (products .entry)) (now (q .entry)) c at (now (rem .entry)) (now (rem .exit)) ⌝ }
+{
+    let mut i = 0;
+    while i < c {
+        rem[at + i] = rem[at + i] ^ products[q[i] as usize];
+        i += 1;
+    }
+}
+
