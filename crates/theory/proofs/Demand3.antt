@@ -1,6 +1,6 @@
 -- The user's third demand: how deep rows of different messages agree, and what lies within the radius of one.
 -- Assumes nothing.
-use Prim.Native.Nat.{ℕ, zero, suc, _+_, _*_, _-_, _/_, _^_, _<_, _≤_}
+use Prim.Native.Nat.{ℕ, zero, suc, _+_, _*_, _-_, _/_, _<_, _≤_}
 use mathlib.Core.Path.{_≡_, refl, ap, sym, _∙_}
 use mathlib.Core.Bool.{Bool, true, false, cond}
 use mathlib.Core.List.{List}
@@ -21,9 +21,8 @@ use Rattle.theory.specs.Vanish.{Same}
 use Rattle.theory.specs.Demand3.{wholeChunks, damagedChunks, Closest}
 use Rattle.theory.proofs.Place.{total-const}
 use Rattle.theory.proofs.Limits.{inside-known}
-use Rattle.theory.proofs.Agree.{agree-le}
 use Rattle.theory.proofs.Multiply.{deg-length}
-use Rattle.theory.proofs.Differ.{agree-less, unique, sharpest, sharpest-monic, sharpest-symbols, sharp}
+use Rattle.theory.proofs.Differ.{agree-less, unique, sharp}
 use Rattle.theory.proofs.Row.{row-distance, row-agreement}
 
 -- ---- numbers of chunks, times the depth of a chunk
@@ -69,9 +68,6 @@ module _ (m r k : ℕ) (points : List ℕ) (inside : Inside m r k points) where
   abbrev P : ℕ → ℕ
   P i = getD points i 0
 
-  abbrev row : List ℕ → List ℕ
-  row = rowOf m r points
-
   abbrev depth : ℕ → ℕ
   depth i = r
 
@@ -80,36 +76,30 @@ module _ (m r k : ℕ) (points : List ℕ) (inside : Inside m r k points) where
 
   -- a. rows of two different messages agree to a total depth of at most k - 1
   pub rows-differ : (f g : List ℕ) → Message m k f → Message m k g → (f ≡ g → ⊥)
-      → total (length points) (agreeAt r (row f) (row g)) < k
+      → total (length points) (agreeAt r (rowOf m r points f) (rowOf m r points g)) < k
   rows-differ f g p q differ =
       rw (row-agreement m r points f (p .symbols) g (q .symbols))
-      (agree-less m (limits .numbers .width) P depth (length points) (λ i l. limits .symbols i) (limits .distinct) k f g (p .symbols) (q .symbols)
+      (agree-less m (limits .numbers .width) P depth (length points) (limits .symbols) (limits .distinct) k f g (p .symbols) (q .symbols)
       (deg-length k f (le-of-eq (p .size))) (deg-length k g (le-of-eq (q .size))) (λ e. differ (same-list f g p q e)))
 
   -- b. and so in at most floor((k - 1) / r) whole chunks
-  pub whole-chunks : (f g : List ℕ) → Message m k f → Message m k g → (f ≡ g → ⊥) → wholeChunks r (length points) (row f) (row g) ≤ (k - 1) / r
+  pub whole-chunks : (f g : List ℕ) → Message m k f → Message m k g → (f ≡ g → ⊥) → wholeChunks r (length points) (rowOf m r points f) (rowOf m r points g) ≤ (k - 1) / r
   whole-chunks f g p q differ =
       le-div-iff-mul-le {k = r} (limits .numbers .r-pos) .1
-      (omega (arith, whole-depth r (length points) (row f) (row g), rows-differ f g p q differ))
+      (omega (arith, whole-depth r (length points) (rowOf m r points f) (rowOf m r points g), rows-differ f g p q differ))
 
   -- c. the bound of a is attained: by the product of k - 1 factors x - P_i, as many of each as a chunk is deep, and the zero message
   pub attained : Closest m r k points
   attained =
-      let w = limits .numbers .width in
-      let below : (i : ℕ) → i < length points → P i < 2 ^ m = λ i l. limits .symbols i in
       let fits : k - 1 ≤ total (length points) depth = omega (arith, total-const (length points) r, limits .numbers .k-top) in
-      let f = sharpest m w P depth (length points) below (limits .distinct) (k - 1) fits in
-      let monic = sharpest-monic m w P depth (length points) below (limits .distinct) (k - 1) fits in
-      let o = sharpest-symbols m w P depth (length points) below (limits .distinct) (k - 1) fits in
+      let (f, o, monic, exactly) = sharp m (limits .numbers .width) P depth (length points) (limits .symbols) (limits .distinct) (k - 1) fits in
       record {
         f = f;
         g = replicate k 0;
         message-f = record { size = omega (arith, monic .size, limits .numbers .k-pos); symbols = o };
         message-g = record { size = length-replicate k 0; symbols = zeros-symbols m k };
         differ = λ e. omega (arith, monic .top, ap (λ (s : List ℕ). getD s (k - 1) 0) e, zeros-zero k (k - 1));
-        exactly =
-            row-agreement m r points f o (replicate k 0) (zeros-symbols m k)
-            ∙ sharp m w P depth (length points) below (limits .distinct) (k - 1) fits (replicate k 0) (zeros-symbols m k) (zeros-zero k);
+        exactly = row-agreement m r points f o (replicate k 0) (zeros-symbols m k) ∙ exactly (replicate k 0) (zeros-symbols m k) (zeros-zero k);
       }
 
   -- d. no row lies within the radius of two different messages' rows
@@ -117,7 +107,7 @@ module _ (m r k : ℕ) (points : List ℕ) (inside : Inside m r k points) where
   unfolding radius
   near-unique w f g p q =
       same-list f g (p .message) (q .message)
-      (unique m (limits .numbers .width) P depth (length points) (λ i l. limits .symbols i) (limits .distinct) k f g
+      (unique m (limits .numbers .width) P depth (length points) (limits .symbols) (limits .distinct) k f g
       (p .message .symbols) (q .message .symbols)
       (deg-length k f (le-of-eq (p .message .size))) (deg-length k g (le-of-eq (q .message .size))) (symbol r w)
       (omega (
@@ -130,31 +120,30 @@ module _ (m r k : ℕ) (points : List ℕ) (inside : Inside m r k points) where
         limits .numbers .k-top,
       )))
 
+  -- the chunks that a message fills
+  abbrev filled : ℕ
+  filled = (k + r - 1) / r
+
+  filled-enough : k ≤ filled * r
+  filled-enough = omega (arith, lt-mul-div-succ (k + r - 1) (limits .numbers .r-pos), mul-comm r filled)
+
+  filled-fits : filled < suc (length points)
+  filled-fits =
+      div-lt-iff-lt-mul {k = r} (limits .numbers .r-pos) .1
+      (omega (arith, suc-mul (length points) r, mul-comm (length points) r, limits .numbers .r-pos, limits .numbers .k-top))
+
+  whole-radius : (e : ℕ) → e ≤ (length points - filled) / 2 → e * r ≤ radius (r * length points) k
+  unfolding radius
+  whole-radius e l =
+      let le : (e + e + filled) * r ≤ length points * r = mul-le-mul-right r (omega (arith, filled-fits)) in
+      omega (arith, filled-enough, le, add-mul (e + e) filled r, add-mul e e r, mul-comm (length points) r)
+
   -- e. a row that differs from a message's row only within floor((n' - ceil(k / r)) / 2) chunks lies within the radius of that message.
   --    It need not even be a row of field symbols
   pub chunks-near : (w f : List ℕ) → Message m k f
-      → damagedChunks r (length points) (row f) w ≤ (length points - (k + r - 1) / r) / 2 → Near m r k points w f
-  unfolding radius
+      → damagedChunks r (length points) (rowOf m r points f) w ≤ (length points - (k + r - 1) / r) / 2 → Near m r k points w f
   chunks-near w f p l =
-      let count : ℕ = length points in
-      let e : ℕ = damagedChunks r count (row f) w in
-      let c : ℕ = (k + r - 1) / r in
-      let enough : k ≤ r * c = omega (arith, lt-mul-div-succ (k + r - 1) (limits .numbers .r-pos)) in
-      let fits : c < suc count =
-      div-lt-iff-lt-mul {k = r} (limits .numbers .r-pos) .1
-      (omega (arith, suc-mul count r, mul-comm count r, limits .numbers .r-pos, limits .numbers .k-top)) in
-      let le : (e + e + c) * r ≤ count * r = mul-le-mul-right r (omega arith) in
       record {
         message = p;
-        within =
-            omega (
-              arith,
-              damage-depth r count (row f) w,
-              enough,
-              le,
-              add-mul (e + e) c r,
-              add-mul e e r,
-              mul-comm count r,
-              mul-comm c r,
-            );
+        within = omega (arith, damage-depth r (length points) (rowOf m r points f) w, whole-radius _ l);
       }

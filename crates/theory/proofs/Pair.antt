@@ -1,6 +1,6 @@
 -- The pair of the decoder: a row near that of a message f has one, and in every pair of such a row Q₀ is f·Q₁, and Q₁ is not 0.
 -- Assumes nothing.
-use Prim.Native.Nat.{ℕ, suc, _+_, _*_, _-_, _/_, _^_, _<_, _≤_}
+use Prim.Native.Nat.{ℕ, suc, _+_, _*_, _-_, _/_, _<_, _≤_}
 use mathlib.Core.Path.{_≡_, refl, ap, ap₂, sym, _∙_}
 use mathlib.Core.List.{List}
 use native.Mathlib.Nat.{le-of-eq}
@@ -9,7 +9,6 @@ use native.Mathlib.Omega.{arith}
 use lib.ListN.{length, getD, List·getD-eq-default}
 use Rattle.defs.specs.Field.{add, mul}
 use Rattle.defs.specs.Place.{tab, total, Symbols}
-use Rattle.defs.specs.Row.{sum}
 use Rattle.defs.specs.Distance.{symbol, radius, Near}
 use Rattle.defs.specs.Pair.{mixed, Zero, IsPair}
 use Rattle.defs.specs.Limits.{Inside}
@@ -76,9 +75,6 @@ module _ (m r k : ℕ) (points w : List ℕ) (inside : Inside m r k points) wher
   unfolding radius
   room = omega (arith, depths-all, limits .numbers .k-top)
 
-  low : (i : ℕ) → i < length points → P i < 2 ^ m
-  low i l = limits .symbols i
-
   -- the coefficients of Q₀ + w_i Q₁ by the recursion
   mixed-h : (Q₀ Q₁ R₀ R₁ : List ℕ) → Symbols m Q₀ → Symbols m Q₁ → Same Q₀ R₀ → Same Q₁ R₁ → (i j : ℕ)
       → mixed m r points w Q₀ Q₁ i j ≡ add (h m (P i) j R₀) (conv m j (symbol r w i) (λ a. h m (P i) a R₁))
@@ -119,7 +115,7 @@ module _ (m r k : ℕ) (points w : List ℕ) (inside : Inside m r k points) wher
     pub pair-nonzero : Zero Q₁ → ⊥
     pair-nonzero z =
         p .nonzero
-        (trivial m (limits .numbers .width) P depth (length points) (symbol r w) low (limits .distinct) Q₀ Q₁ (p .symbols₀)
+        (trivial m (limits .numbers .width) P depth (length points) (symbol r w) (limits .symbols) (limits .distinct) Q₀ Q₁ (p .symbols₀)
         (deg-length _ Q₀ (omega (arith, p .size₀, unknowns, room))) solves z)
         z
 
@@ -134,5 +130,5 @@ module _ (m r k : ℕ) (points w : List ℕ) (inside : Inside m r k points) wher
 
     pub pair-divides : (Q₀ Q₁ : List ℕ) → IsPair m r k points w Q₀ Q₁ → Same Q₀ (pmul m f Q₁)
     pair-divides Q₀ Q₁ p =
-        near-decodes m (limits .numbers .width) P depth (length points) (symbol r w) low (limits .distinct) Q₀ Q₁ k t f
+        near-decodes m (limits .numbers .width) P depth (length points) (symbol r w) (limits .symbols) (limits .distinct) Q₀ Q₁ k t f
         (near .message .symbols) (deg-length k f (le-of-eq (near .message .size))) within room (solution Q₀ Q₁ p)

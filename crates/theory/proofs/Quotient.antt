@@ -11,12 +11,9 @@ use lib.Seq.{take-all}
 use Rattle.defs.specs.Field.{add, mul}
 use Rattle.theory.specs.Poly.{pmul}
 use Rattle.theory.specs.Vanish.{Deg, Same}
+use Rattle.theory.specs.Quotient.{Remains}
 use Rattle.theory.proofs.Field.{sums, ring, 0-add, add-0, mul-assoc, mul-comm, one-mul-of-lt}
 use Rattle.theory.proofs.Multiply.{deg-length, pmul-head, pmul-tail, pmul-deg}
-
--- rem is the remainder where the coefficients of f from i on have been found
-abbrev pub Remains : ℕ → List ℕ → List ℕ → ℕ → (ℕ → ℕ) → Type 0
-Remains m f g i rem = (x : ℕ) → rem x ≡ getD (pmul m (take i f) g) x 0
 
 module _ (m : ℕ) (g : List ℕ) where
   single : (a y : ℕ) → getD (pmul m (a ∷ []) g) y 0 ≡ mul m a (getD g y 0)
