@@ -43,9 +43,10 @@ module _ (products q : List ℕ) (at : ℕ) (rem : List ℕ) where
           ≡ add (getD rem (at + j) 0) (getD products (getD q j 0) 0)
       go h j l′ (yes d) = getD-set-other new (at + i) (at + j) _ 0 (λ e. omega arith) ∙ t .off j d
       go h j l′ (no d) =
+          let v : ℕ = bitXor (getD new (at + i) 0) (getD products (getD q i 0) 0) in
           let e : j ≡ i = omega arith in
-          ap (λ (x : ℕ). getD (set new (at + i) _) (at + x) 0) e
-          ∙ getD-set-same new (at + i) _ 0 h
+          ap (λ (x : ℕ). getD (set new (at + i) v) (at + x) 0) e
+          ∙ getD-set-same new (at + i) v 0 h
           ∙ ap (λ (x : ℕ). bitXor x (getD products (getD q i 0) 0)) (t .behind (at + i) (omega arith))
           ∙ ap (λ (x : ℕ). bitXor (getD rem (at + x) 0) (getD products (getD q x 0) 0)) (sym e)
 

@@ -2,14 +2,14 @@
 use Prim.Native.Nat.{ℕ, suc, _+_, _-_, _^_, _<_, _≤_}
 use mathlib.Core.Path.{_≡_}
 use mathlib.Core.List.{List}
-use lib.ListN.{length, getD, take}
+use lib.ListN.{length, getD}
 use Rattle.defs.specs.Field.{Width, add, mul}
 use Rattle.defs.specs.Place.{Symbols}
 use Rattle.defs.specs.Row.{Message}
 use Rattle.defs.specs.Pair.{Zero}
 use Rattle.defs.specs.Limits.{longest}
 use Rattle.theory.specs.Poly.{pmul}
-use Rattle.theory.specs.Vanish.{Same}
+use Rattle.theory.specs.Vanish.{Deg, Same}
 
 -- of the first size coefficients of q, those from c on are 0, and the one before is not
 pub record Terms (q : List ℕ) (size c : ℕ) : Type 0 where
@@ -48,19 +48,19 @@ pub record Divided (m v : ℕ) (q : List ℕ) (c at : ℕ) (rem : List ℕ) (a :
   pub off : (i : ℕ) → i < c → getD rem′ (at + i) 0 ≡ add (getD rem (at + i) 0) (mul m a (getD q i 0))
   pub behind : (p : ℕ) → at + c ≤ p → getD rem′ p 0 ≡ getD rem p 0
 
--- the first size₀ and size₁ coefficients of q₀ and q₁ are a dividend and a divisor
-pub record Dividing (m k size₀ size₁ : ℕ) (q₀ q₁ : List ℕ) : Type 0 where
+-- q₁ has coefficients before size only, and k of the quotient fit
+pub record Dividing (m k size : ℕ) (q₀ q₁ : List ℕ) : Type 0 where
   pub width : Width m
   pub symbols₀ : Symbols m q₀
   pub symbols₁ : Symbols m q₁
   pub long₀ : length q₀ ≡ longest
   pub long₁ : length q₁ ≡ longest
-  pub within₀ : size₀ ≤ longest
-  pub within₁ : size₁ ≤ longest
-  pub room : k + size₁ ≤ suc size₀
+  pub degree : Deg size q₁
+  pub within : size ≤ longest
+  pub room : k + size ≤ suc longest
 
--- the first k of f are the message whose product with the divisor the dividend is, where there is such a message
-pub record Quotient (m k size₀ size₁ : ℕ) (q₀ q₁ f : List ℕ) : Type 0 where
+-- where q₀ is the product of q₁ and a message of k symbols, f has that message
+pub record Quotient (m k : ℕ) (q₀ q₁ f : List ℕ) : Type 0 where
   pub long : length f ≡ longest
   pub symbols : Symbols m f
-  pub exact : (g : List ℕ) → Message m k g → (Zero (take size₁ q₁) → ⊥) → Same (take size₀ q₀) (pmul m g (take size₁ q₁)) → take k f ≡ g
+  pub exact : (g : List ℕ) → Message m k g → (Zero q₁ → ⊥) → Same q₀ (pmul m g q₁) → (i : ℕ) → i < k → getD f i 0 ≡ getD g i 0

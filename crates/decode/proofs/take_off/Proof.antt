@@ -27,10 +27,10 @@ shared-slice-read-rem : tie.Need-shared-slice-read-rem Inv-loop μ-loop
 shared-slice-read-rem c = search needs
 
 cast-rem : tie.Need-cast-rem Inv-loop μ-loop
-cast-rem c = search needs
+cast-rem c = omega (arith, c .shared-slice-known .given (c .before .before .before .loop .i))
 
 element-copy-out-rem : tie.Need-element-copy-out-rem Inv-loop μ-loop
-element-copy-out-rem c = search needs
+element-copy-out-rem c = omega (arith, c .shared-slice-known .given (c .before .before .before .loop .i))
 
 add-rem-2 : tie.Need-add-rem-2 Inv-loop μ-loop
 add-rem-2 c = search needs
@@ -45,13 +45,13 @@ loop-less : tie.Need-loop-less Inv-loop μ-loop
 loop-less c = search needs
 
 loop-again : tie.Need-loop-again Inv-loop μ-loop
-loop-again c = (search needs, off-more _ _ _ _ _ _ ? ?)
+loop-again c = (search needs, off-more _ _ _ _ _ _ (omega (arith, c .before .before .before .before .before .pre .1 .room)) (c .before .before .before .before .loop .inv .1))
 
 same-length : tie.Need-same-length Inv-loop μ-loop
 same-length c = search needs
 
 returns : tie.Need-returns Inv-loop μ-loop
-returns c = ?
+returns c = off-all _ _ _ _ _ _ _ (c .before .loop .inv .0) (c .loop-test .left) (c .before .loop .inv .1)
 
 pub take-off-spec : {M : Type 1} → statement M
 take-off-spec =
