@@ -33,3 +33,33 @@ fn take_off(products: &[u8; 256], q: &[u8], c: usize, at: usize, rem: &mut [u8])
     }
 }
 
+// The coefficient at places up of the quotient by q, which is taken off rem; v is the inverse of q's highest coefficient.
+fn divide_at(m: usize, v: u8, q: &[u8], c: usize, at: usize, rem: &mut [u8]) -> u8
+    requires { ⌜ Divisible m v (now q) c at (now rem) ⌝ }
+    ensures { λ a. ⌜ Divided m v (now (q .entry)) c at (now (rem .entry)) a (now (rem .exit)) ⌝ }
+{
+    let a = field::mul(m, rem[at + (c - 1)], v);
+    let products = field::product_row(m, a);
+    take_off(&products, q, c, at, rem);
+    a
+}
+
+// The quotient of k coefficients, from the top down.
+fn quotient(m: usize, k: usize, size: usize, q0: [u8; LONGEST], q1: [u8; LONGEST]) -> [u8; LONGEST]
+    requires { ⌜ Dividing m k size q0 q1 ⌝ }
+    ensures { λ f. ⌜ Quotient m k q0 q1 f ⌝ }
+{
+    let mut f = [0u8; LONGEST];
+    let mut rem = q0;
+    let c = terms(&q1, size);
+    if c == 0 {
+        return f;
+    }
+    let v = field::inverse(m, q1[c - 1]);
+    let mut at = k;
+    while 0 < at {
+        at -= 1;
+        f[at] = divide_at(m, v, &q1, c, at, &mut rem);
+    }
+    f
+}
