@@ -9,7 +9,7 @@ use std::slice;
 
 const PAGE: usize = 4096;
 /// What the bytes before the buffer hold.
-const PATTERN: u8 = 0xA5;
+static PATTERN: [u8; PAGE] = [0xA5; PAGE];
 
 const PROT_NONE: i32 = 0;
 const PROT_READ_WRITE: i32 = 3;
@@ -44,21 +44,30 @@ impl Guarded {
     pub fn new() -> Guarded {
         // SAFETY: a fresh mapping is asked for; its middle page, which lies within it, is then opened.
         let first = unsafe {
-            let pages = mmap(ptr::null_mut(), 3 * PAGE, PROT_NONE, MAP_PRIVATE_ANONYMOUS, -1, 0);
+            let pages = mmap(
+                ptr::null_mut(),
+                3 * PAGE,
+                PROT_NONE,
+                MAP_PRIVATE_ANONYMOUS,
+                -1,
+                0,
+            );
             assert_ne!(pages as isize, -1, "no memory for a guarded buffer");
             let first = pages.cast::<u8>();
             let opened = mprotect(first.add(PAGE).cast(), PAGE, PROT_READ_WRITE);
             assert_eq!(opened, 0, "the page between the guards cannot be opened");
             first
         };
-        Guarded { first, length: 0 }
+        let mut guarded = Guarded { first, length: 0 };
+        guarded.place(&[]);
+        guarded
     }
 
     /// Puts `bytes` at the end of the page and the pattern before them.
     pub fn place(&mut self, bytes: &[u8]) {
         self.length = bytes.len();
         let (margin, buffer) = self.page_mut().split_at_mut(PAGE - bytes.len());
-        margin.fill(PATTERN);
+        margin.copy_from_slice(&PATTERN[..PAGE - bytes.len()]);
         buffer.copy_from_slice(bytes);
     }
 
@@ -74,8 +83,8 @@ impl Guarded {
 
     /// Whether nothing was written before the buffer.
     pub fn margin_kept(&self) -> bool {
-        let margin = &self.page()[..PAGE - self.length];
-        margin.iter().all(|byte| *byte == PATTERN)
+        let margin = PAGE - self.length;
+        self.page()[..margin] == PATTERN[..margin]
     }
 
     fn page(&self) -> &[u8] {

@@ -165,9 +165,21 @@ fn limits() -> Vec<Worked> {
         encodes("r 8", code(8, 8, 1, &[5]), &[7], &row(7, 8, 1)),
         refuses("r 9", code(8, 9, 1, &[5]), &[7], 9, (2, 0)),
         encodes("m 4, 16 points", sixteen, &[15], &row(15, 1, 16)),
-        refuses("m 4, 17 points", code(4, 1, 1, &first(17)), &[15], 17, (3, 0)),
+        refuses(
+            "m 4, 17 points",
+            code(4, 1, 1, &first(17)),
+            &[15],
+            17,
+            (3, 0),
+        ),
         encodes("m 8, r 8, 16 points", deep, &[200], &row(200, 8, 16)),
-        refuses("m 8, r 8, 17 points", code(8, 8, 1, &first(17)), &[200], 136, (3, 0)),
+        refuses(
+            "m 8, r 8, 17 points",
+            code(8, 8, 1, &first(17)),
+            &[200],
+            136,
+            (3, 0),
+        ),
         refuses("no points", code(8, 1, 1, &[]), &[1], 0, (3, 0)),
         encodes("k = n", two(2), &[1, 2], &[1, 3]),
         refuses("k = n + 1", two(3), &[1, 2, 0], 2, (4, 0)),
@@ -179,7 +191,13 @@ fn limits() -> Vec<Worked> {
         encodes("symbol 3", two(1), &[3], &[3, 3]),
         refuses("symbol 4", two(1), &[4], 2, (8, 0)),
         refuses("r 9 and k 0", code(2, 9, 0, &[0]), &[], 9, (2, 0)),
-        refuses("a repeated point and a short buffer", code(2, 1, 1, &[0, 1, 1]), &[1], 2, (6, 2)),
+        refuses(
+            "a repeated point and a short buffer",
+            code(2, 1, 1, &[0, 1, 1]),
+            &[1],
+            2,
+            (6, 2),
+        ),
         refuses("a short buffer and symbol 4", two(1), &[4], 1, (7, 0)),
     ]
 }

@@ -54,7 +54,14 @@ fn put_one_in(random: &mut Random, call: &mut Call, fault: Fault) {
 
 /// A huge number, or one that is `near` in its low bits alone.
 pub fn extreme(random: &mut Random, near: usize) -> usize {
-    let far = [1 << 8, 1 << 16, 1 << 31, 1 << 32, 1 << 63, 0xFFFF_FFFF_0000_0000];
+    let far = [
+        1 << 8,
+        1 << 16,
+        1 << 31,
+        1 << 32,
+        1 << 63,
+        0xFFFF_FFFF_0000_0000,
+    ];
     match random.below(4) {
         0 => usize::MAX,
         1 => usize::MAX - near,
@@ -99,7 +106,11 @@ fn bad_points(random: &mut Random, call: &mut Call) {
         1 => (1 << m) + 1,
         _ => (LONGEST_ROW / r).min(1 << m) + 1,
     };
-    let most = if random.percent(80) { least } else { least + 40 };
+    let most = if random.percent(80) {
+        least
+    } else {
+        least + 40
+    };
     let count = random.between(least, most);
     // Small fields have no row longer than the limit; the list is then too long for the field alone.
     while points.len() < count {
@@ -142,8 +153,18 @@ fn bad_length(random: &mut Random, call: &mut Call) {
 
 fn resize_wrongly(random: &mut Random, slice: &mut Vec<u8>, only_short: bool) {
     let length = slice.len();
-    let shorter = [0, length / 2, length.saturating_sub(1), random.below(length.max(1))];
-    let longer = [length + 1, length + 2, 2 * length + 1, length + random.between(1, 100)];
+    let shorter = [
+        0,
+        length / 2,
+        length.saturating_sub(1),
+        random.below(length.max(1)),
+    ];
+    let longer = [
+        length + 1,
+        length + 2,
+        2 * length + 1,
+        length + random.between(1, 100),
+    ];
     let changed = if only_short || random.percent(50) {
         random.pick(&shorter)
     } else {

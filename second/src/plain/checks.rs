@@ -70,6 +70,8 @@ impl Checked {
 
     fn first_high(&self, symbols: &[u8]) -> Option<usize> {
         let size = self.size;
-        symbols.iter().position(|symbol| usize::from(*symbol) >= size)
+        symbols
+            .iter()
+            .position(|symbol| usize::from(*symbol) >= size)
     }
 }

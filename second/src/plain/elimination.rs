@@ -44,7 +44,11 @@ fn write_equations(
     let mut weighted = [0u8; DEEPEST];
     weighted[..r].copy_from_slice(chunk);
     for column in 0..columns {
-        let term = if column < above { &mut power } else { &mut weighted };
+        let term = if column < above {
+            &mut power
+        } else {
+            &mut weighted
+        };
         for depth in 0..r {
             block[depth * columns + column] = term[depth];
         }
@@ -99,7 +103,9 @@ fn solve(tables: &Tables, matrix: &[u8], columns: usize, free: usize) -> Vec<u8>
     solution[free] = 1;
     for column in (0..free).rev() {
         let row = &matrix[column * columns..(column + 1) * columns];
-        let terms = row[column + 1..=free].iter().zip(&solution[column + 1..=free]);
+        let terms = row[column + 1..=free]
+            .iter()
+            .zip(&solution[column + 1..=free]);
         let sum = terms.fold(0, |sum, (entry, value)| {
             sum ^ tables.products_of(*entry)[usize::from(*value)]
         });

@@ -7,8 +7,8 @@ mod checks;
 mod elimination;
 mod tables;
 
-pub use checks::Refused;
 use checks::Checked;
+pub use checks::Refused;
 use elimination::find_pair;
 use tables::Tables;
 

@@ -36,7 +36,11 @@ impl Tables {
         let mut powers = vec![1usize; order];
         for exponent in 1..order {
             let double = powers[exponent - 1] << 1;
-            powers[exponent] = if double >= size { double ^ modulus } else { double };
+            powers[exponent] = if double >= size {
+                double ^ modulus
+            } else {
+                double
+            };
         }
         let mut products = Box::new([[0; 256]; 256]);
         let mut inverses = [0; 256];

@@ -49,9 +49,9 @@ impl Refusal {
     /// The index that the refusal speaks of, 0 where it speaks of none.
     pub fn place(self) -> usize {
         match self {
-            Refusal::PointHigh(place)
-            | Refusal::PointTwice(place)
-            | Refusal::SymbolHigh(place) => place,
+            Refusal::PointHigh(place) | Refusal::PointTwice(place) | Refusal::SymbolHigh(place) => {
+                place
+            }
             _ => 0,
         }
     }

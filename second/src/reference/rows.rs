@@ -51,11 +51,7 @@ fn chunk_distance(a: &[u8], b: &[u8]) -> usize {
 }
 
 /// The distance in each chunk of two rows of one length.
-pub fn chunk_distances<'a>(
-    r: usize,
-    a: &'a [u8],
-    b: &'a [u8],
-) -> impl Iterator<Item = usize> + 'a {
+pub fn chunk_distances<'a>(r: usize, a: &'a [u8], b: &'a [u8]) -> impl Iterator<Item = usize> + 'a {
     let pairs = a.chunks(r).zip(b.chunks(r));
     pairs.map(|(x, y)| chunk_distance(x, y))
 }
@@ -101,14 +97,16 @@ mod tests {
     #[test]
     fn parities_are_those_of_the_binomials() {
         let mut row: Vec<u128> = vec![1];
-        for upper in 0..=LONGEST_ROW {
-            for lower in 0..DEEPEST {
+        for parities in &PARITIES {
+            for (lower, parity) in parities.iter().enumerate() {
                 let binomial = row.get(lower).copied().unwrap_or(0);
-                assert_eq!(u128::from(PARITIES[upper][lower]), binomial % 2);
+                assert_eq!(u128::from(*parity), binomial % 2);
             }
             // The exact numbers: the largest, 128 over 64, has 124 bits.
             let next = |i: usize| row[i - 1] + row.get(i).copied().unwrap_or(0);
-            row = std::iter::once(1).chain((1..=row.len()).map(next)).collect();
+            row = std::iter::once(1)
+                .chain((1..=row.len()).map(next))
+                .collect();
         }
     }
 }

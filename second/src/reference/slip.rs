@@ -57,7 +57,8 @@ fn push(bits: &mut String, number: usize, width: usize) {
 }
 
 fn number_of(bits: &[u8]) -> usize {
-    bits.iter().fold(0, |number, bit| 2 * number + usize::from(*bit == b'1'))
+    bits.iter()
+        .fold(0, |number, bit| 2 * number + usize::from(*bit == b'1'))
 }
 
 /// A string of bits that is read from its front.
