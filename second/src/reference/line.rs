@@ -43,11 +43,34 @@ pub fn line(slip: &[u8], buffer: &mut [u8]) -> Result<usize, Refusal> {
 #[cfg(test)]
 mod tests {
     use super::text;
+    use crate::call::Header;
+    use crate::reference::slip::{pack, Slip};
 
     #[test]
     fn the_six_bytes_give_the_line_worked_by_hand() {
         let slip = [0x10, 0x83, 0x06, 0x1b, 0x73, 0xb8];
         assert_eq!(text(&slip), "0 2 | 1 2 2 1 | 1 0 1 0\n");
+    }
+
+    #[test]
+    fn the_longest_line_has_776_bytes() {
+        // With k = n every row is accepted; 255 in all of it is the row of the constant message.
+        let slip = Slip {
+            header: Header {
+                m: 8,
+                r: 1,
+                count: 128,
+                k: 128,
+            },
+            points: (0..128).collect(),
+            row: vec![255; 128],
+        };
+        let message = format!("255{}", " 0".repeat(127));
+        let depths = format!("0{}", " 0".repeat(127));
+        let text = text(&pack(&slip));
+        assert_eq!(text, format!("0 0 | {message} | {depths}\n"));
+        // Every symbol could have the three digits that the first one has.
+        assert_eq!(text.len() + 2 * 127, 776);
     }
 
     #[test]
