@@ -22,6 +22,7 @@ pub fn all() -> Vec<Worked> {
     cases.extend(decoded());
     cases.extend(distances());
     cases.extend(limits());
+    cases.extend(two_at_once());
     cases.extend(slips());
     cases
 }
@@ -190,6 +191,13 @@ fn limits() -> Vec<Worked> {
         refuses("point 4", code(2, 1, 1, &[0, 1, 4]), &[1], 3, (5, 2)),
         encodes("symbol 3", two(1), &[3], &[3, 3]),
         refuses("symbol 4", two(1), &[4], 2, (8, 0)),
+    ]
+}
+
+/// The number tried first is given.
+fn two_at_once() -> Vec<Worked> {
+    let two = code(2, 1, 1, &[0, 1]);
+    vec![
         refuses("r 9 and k 0", code(2, 9, 0, &[0]), &[], 9, (2, 0)),
         refuses(
             "a repeated point and a short buffer",
@@ -198,7 +206,7 @@ fn limits() -> Vec<Worked> {
             2,
             (6, 2),
         ),
-        refuses("a short buffer and symbol 4", two(1), &[4], 1, (7, 0)),
+        refuses("a short buffer and symbol 4", two, &[4], 1, (7, 0)),
     ]
 }
 

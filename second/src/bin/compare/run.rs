@@ -46,7 +46,7 @@ pub fn replay(bytes: &[u8]) -> bool {
     let agrees = agrees(&mut Archive::default(), &call, &outcome);
     if agrees {
         println!("both: {}", outcome.text(call.kind));
-        println!("compare: 1 cases agree");
+        println!("compare: the case agrees");
     }
     agrees
 }
