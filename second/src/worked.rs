@@ -14,6 +14,9 @@ pub struct Worked {
 /// What every buffer holds before the call, so that an unchanged one is seen.
 const BEFORE: u8 = 0xEE;
 
+/// 2 in its low half: a call that cuts numbers to 32 bits takes it for 2.
+const WIDE: usize = (1 << 32) + 2;
+
 /// P4's row as a slip.
 const SIX_BYTES: [u8; 6] = [0x10, 0x83, 0x06, 0x1B, 0x73, 0xB8];
 
@@ -185,8 +188,26 @@ fn limits() -> Vec<Worked> {
         encodes("k = n", two(2), &[1, 2], &[1, 3]),
         refuses("k = n + 1", two(3), &[1, 2, 0], 2, (4, 0)),
         refuses("k = 0", two(0), &[], 2, (4, 0)),
-        refuses("k = 2^32 + 2", two((1 << 32) + 2), &[1, 2], 2, (4, 0)),
+        refuses("k = 2^32 + 2", two(WIDE), &[1, 2], 2, (4, 0)),
+        refuses("k at its largest", two(usize::MAX), &[1, 2], 2, (4, 0)),
         refuses("m = 258", code(258, 1, 1, &[0]), &[1], 1, (1, 0)),
+        refuses("m = 2^32 + 2", code(WIDE, 1, 1, &[0]), &[1], 1, (1, 0)),
+        refuses(
+            "m at its largest",
+            code(usize::MAX, 1, 1, &[0]),
+            &[1],
+            1,
+            (1, 0),
+        ),
+        refuses("r = 2^32 + 2", code(2, WIDE, 1, &[0]), &[1], 1, (2, 0)),
+        refuses(
+            "r at its largest",
+            code(2, usize::MAX, 1, &[0]),
+            &[1],
+            1,
+            (2, 0),
+        ),
+        refuses("600 points", code(8, 1, 1, &[0; 600]), &[1], 600, (3, 0)),
         refuses("points 0 0", code(2, 1, 1, &[0, 0]), &[1], 2, (6, 1)),
         refuses("point 4", code(2, 1, 1, &[0, 1, 4]), &[1], 3, (5, 2)),
         encodes("symbol 3", two(1), &[3], &[3, 3]),
