@@ -1,0 +1,6 @@
+-- The laws behind the elimination.
+pub mod Sums
+pub mod Steps
+pub mod Columns
+pub mod Free
+pub mod Unknowns
