@@ -12,6 +12,14 @@ use Rattle.solve.specs.Step.{Pivot, Added, Alike, Stairs, Leads}
 use Rattle.solve.proofs.Sums.{eq-or-not}
 use Rattle.solve.proofs.Steps.{scaled, added-stairs}
 
+-- a row that has 0 already
+pub leads-skip : {rows c i : ℕ} {M : Matrix} → Leads rows c i M → M i c ≡ 0 → Leads rows c (i + 1) M
+leads-skip {rows} {c} {i} {M} L e = record {
+  stairs = L .stairs;
+  one = L .one;
+  none = λ k h g. ⊎-elim (λ w. rw w e) (λ w. L .none k h (omega arith)) (eq-or-not k i);
+}
+
 module _ (m rows cols c : ℕ) (fits : c < cols) where
   -- the pivot is M p c, with inverse a
   module _ (p a : ℕ) {M N : Matrix} (S : Stairs rows c M) (P : Pivot rows c M p) (found : p < rows) (small : M p c < 2 ^ m) (inv : mul m (M p c) a ≡ 1)
@@ -19,7 +27,7 @@ module _ (m rows cols c : ℕ) (fits : c < cols) where
     from : c ≤ p
     from = P .from
 
-    stairs-one : Stairs rows c N
+    pub stairs-one : Stairs rows c N
     stairs-one = added-stairs m rows cols p p (add a 1) M N A c from from found (omega arith) S
 
     is-one : N p c ≡ 1
@@ -42,14 +50,6 @@ module _ (m rows cols c : ℕ) (fits : c < cols) where
           ∙ ap₂ add (A .others c c (λ e. n (sym e)) fits ∙ P .before c (le-refl c) (omega arith)) (ap (mul m 1) is-one ∙ one-mul-of-lt m 1 h) ∙ 0-add 1;
       none = λ k l g. absurd (omega arith);
     }
-
-  -- a row that has 0 already
-  pub leads-skip : {i : ℕ} {M : Matrix} → Leads rows c i M → M i c ≡ 0 → Leads rows c (i + 1) M
-  leads-skip {i} {M} L e = record {
-    stairs = L .stairs;
-    one = L .one;
-    none = λ k h g. ⊎-elim (λ w. rw w e) (λ w. L .none k h (omega arith)) (eq-or-not k i);
-  }
 
   pub leads-more : {i f : ℕ} {M N : Matrix} → c < i → i < rows → Leads rows c i M → f < 2 ^ m → f ≡ M i c → Added m cols i c f M N → Leads rows c (i + 1) N
   leads-more {i} {f} {M} {N} l li L small e A = record {

@@ -4,3 +4,4 @@ pub mod Steps
 pub mod Columns
 pub mod Free
 pub mod Unknowns
+pub mod Writes

@@ -1,6 +1,6 @@
 -- Back substitution: the turns that put the unknowns into column c, from the last row up.
 -- Assumes nothing.
-use mathlib.Core.Path.{_≡_, refl, sym, ap, ap₂, _∙_}
+use mathlib.Core.Path.{_≡_, refl, sym, ap, ap₂, subst, _∙_}
 use mathlib.Core.Logic.{⊎-elim}
 use Prim.Native.Nat.{ℕ, suc, _^_, _<_, _≤_}
 use native.Mathlib.Nat.{le-refl}
@@ -45,24 +45,27 @@ module _ (m c : ℕ) {M : Matrix} where
     others = λ i j h n. refl;
   }
 
-  pub backing-more : {k : ℕ} {N K : Matrix} → k < c → c < stride → Backing m c (suc k) M N → Spread m c k N K → Backing m c k M K
-  backing-more {k} {N} {K} l fits B S = record {
+  pub backing-more : {n k : ℕ} {N K : Matrix} → n ≡ suc k → k < c → c < stride → Backing m c n M N → Spread m c k N K → Backing m c k M K
+  backing-more {n} {k} {N} {K} e l fits A S = record {
     asked = λ i h li.
         S .below i h
         ∙ ⊎-elim
-        (λ e. rw e (B .rest k (le-refl (suc k)) ∙ same k k l (le-refl k)))
+        (λ w. rw w (B .rest k (le-refl (suc k)) ∙ same k k l (le-refl k)))
         (λ n. B .asked i (omega arith) li ∙ same i i li h)
         (eq-or-not i k);
     rest = λ i li.
         S .above i li
         ∙ ap₂ add
         (B .rest i (omega arith) ∙ same i k l (le-refl k))
-        (ap₂ (mul m) (B .others i k (omega arith) (λ e. omega arith)) (sym (S .below k (le-refl k)) ∙ sym (free-below K c k l)))
+        (ap₂ (mul m) (B .others i k (omega arith) (λ w. omega arith)) (sym (S .below k (le-refl k)) ∙ sym (free-below K c k l)))
         ∙ add-comm _ _
         ∙ sym (tail-more k (suc c) (λ j. mul m (M i j) (free K c j)) (omega arith));
     others = λ i j h n. S .others i j h n ∙ B .others i j h n;
   }
     where
+      B : Backing m c (suc k) M N
+      B = subst (λ (i : ℕ). Backing m c i M N) e A
+
       same : (i p : ℕ) → p < c → k ≤ p → sumFrom (suc p) (suc c) (λ j. mul m (M i j) (free N c j)) ≡ sumFrom (suc p) (suc c) (λ j. mul m (M i j) (free K c j))
       same i p lp h =
           tail-same (suc p) (suc c) (λ j. mul m (M i j) (free N c j)) (λ j. mul m (M i j) (free K c j)) (omega arith)

@@ -1,5 +1,5 @@
 -- The working table: rows of one constant length, one after the other, read as a matrix.
-use Prim.Native.Nat.{ℕ, _+_, _*_, _≤_}
+use Prim.Native.Nat.{ℕ, _+_, _*_}
 use mathlib.Core.Path.{_≡_}
 use mathlib.Core.List.{List}
 use lib.ListN.{length, getD}
@@ -18,10 +18,8 @@ tableSize = longest * stride
 abbrev pub at : List ℕ → ℕ → ℕ → ℕ
 at t i j = getD t (i * stride + j) 0
 
--- a table that holds a system of rows equations in cols unknowns over the field with 2 ^ m elements
-pub record Shape (m : ℕ) (t : List ℕ) (rows cols : ℕ) : Type 0 where
+-- a table of symbols of the field with 2 ^ m elements
+pub record Shape (m : ℕ) (t : List ℕ) : Type 0 where
   pub width : Width m
   pub size : length t ≡ tableSize
-  pub rows-fit : rows ≤ longest
-  pub cols-fit : cols ≤ stride
   pub symbols : Symbols m t
