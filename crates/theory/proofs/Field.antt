@@ -214,7 +214,7 @@ module _ (m : ℕ) where
       ∙ sym (respects (times2 m) times2-add (λ x. refl) m (a % 2 ^ m) b)
 
   -- 2 ^ i is x ^ i
-  times2-pow : (i : ℕ) → suc i < m → times2 m (2 ^ i) ≡ 2 ^ suc i
+  pub times2-pow : (i : ℕ) → suc i < m → times2 m (2 ^ i) ≡ 2 ^ suc i
   unfolding times2
   times2-pow i h =
       ap (λ (x : ℕ). add x (x / 2 ^ m % 2 * modulus m) % 2 ^ m) (sym (pow-suc 2 i))
