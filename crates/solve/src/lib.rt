@@ -12,6 +12,7 @@ ghost use Rattle.solve.specs.Answer.{Answers};
 
 // The entries of a row of the working table, and those of the whole table.
 pub const STRIDE: usize = LONGEST + 1;
+
 pub const TABLE: usize = LONGEST * STRIDE;
 
 // What an elimination finds.

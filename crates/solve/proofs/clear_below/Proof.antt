@@ -61,8 +61,7 @@ loop-again c =
     ⊎-elim
     (λ w.
     let A = w .2 .ensures .1 in
-    rw (w .3)
-    (
+    rw (w .3) (
       omega arith,
       omega arith,
       w .2 .ensures .0,
