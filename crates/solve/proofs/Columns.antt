@@ -1,6 +1,6 @@
 -- The turns at one column: its pivot is made 1 and brought to row c, and the rows after it are cleared.
 -- Assumes nothing.
-use mathlib.Core.Path.{_≡_, refl, sym, ap, ap₂, _∙_}
+use mathlib.Core.Path.{_≡_, sym, ap, ap₂, _∙_}
 use mathlib.Core.Logic.{⊎-elim}
 use Prim.Native.Nat.{ℕ, _+_, _^_, _<_, _≤_}
 use native.Mathlib.Nat.{le-refl}
@@ -8,7 +8,7 @@ use native.Mathlib.Omega.{arith}
 use Rattle.defs.specs.Field.{add, mul}
 use Rattle.theory.proofs.Field.{0-add, add-self, mul-comm, one-mul-of-lt}
 use Rattle.solve.specs.System.{Matrix}
-use Rattle.solve.specs.Step.{Pivot, Added, Alike, Stairs, Leads}
+use Rattle.solve.specs.Step.{Pivot, Added, Stairs, Leads}
 use Rattle.solve.proofs.Sums.{eq-or-not}
 use Rattle.solve.proofs.Steps.{scaled, added-stairs}
 

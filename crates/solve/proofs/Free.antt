@@ -8,11 +8,12 @@ use native.Mathlib.Omega.{arith}
 use borrow.Author.Tests.{lt-ltb, le-ltb, eq-eqb, ne-eqb}
 use lib.Pow.{pow-pos}
 use Rattle.defs.specs.Field.{add, mul}
-use Rattle.defs.specs.Row.{sum, sumFrom}
+use Rattle.defs.specs.Row.{sum}
 use Rattle.theory.proofs.Field.{add-0, add-self, mul-0, 0-mul, one-mul-of-lt}
 use Rattle.solve.specs.System.{Matrix, Solves, free}
 use Rattle.solve.specs.Step.{Pivot, Alike, Stairs, Back}
-use Rattle.solve.specs.Answer.{IsFree, IsFull}
+use Rattle.solve.specs.Answer.{IsFree, IsFull, Answers}
+use Rattle.solve.specs.declared.Solved.{Solved}
 use Rattle.solve.proofs.Sums.{eq-or-not, lt-or-le, sum-zero, sum-cut, sum-from, tail-more, tail-zero}
 
 pub eq-lt : {a b q : ℕ} → a ≡ b → b < q → a < q
@@ -86,6 +87,10 @@ module _ (m rows cols : ℕ) (M : Matrix) (S : Stairs rows cols M) (fits : cols 
 
   pub all-zero : (j : ℕ) → j < cols → x j ≡ 0
   all-zero j l = last-zero cols j (omega arith) l
+
+-- for a caller that knows which answer it has
+pub told : (m rows cols : ℕ) (M N : Matrix) {s s′ : Solved} → s ≡ s′ → Answers m rows cols M N s → Answers m rows cols M N s′
+told m rows cols M N e h = subst (λ (s : Solved). Answers m rows cols M N s) e h
 
 module _ (m rows cols : ℕ) {M₀ M : Matrix} (A : Alike m rows cols M₀ M) where
   pub answer-free : {N : Matrix} (c p : ℕ) → c < cols → Stairs rows c M → Pivot rows c M p → p ≡ rows → Back m c M N → 1 < 2 ^ m → ((i j : ℕ) → N i j < 2 ^ m)

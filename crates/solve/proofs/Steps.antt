@@ -1,13 +1,12 @@
 -- Row operations keep the solutions, and keep the stairs to the left of the column at which they work.
 -- Assumes nothing.
-use mathlib.Core.Path.{_≡_, refl, sym, ap, ap₂, _∙_}
+use mathlib.Core.Path.{_≡_, sym, ap, ap₂, _∙_}
 use mathlib.Core.Logic.{⊎-elim}
 use Prim.Native.Nat.{ℕ, _^_, _<_, _≤_}
 use native.Mathlib.Omega.{arith}
 use Rattle.defs.specs.Field.{add, mul}
-use Rattle.defs.specs.Row.{sum}
 use Rattle.theory.proofs.Field.{add-0, mul-lt, mul-0, mul-add-l, mul-assoc, one-mul-of-lt, sums}
-use Rattle.solve.specs.System.{Matrix, dot, Solves}
+use Rattle.solve.specs.System.{Matrix, dot}
 use Rattle.solve.specs.Step.{Added, Alike, Stairs}
 use Rattle.solve.proofs.Sums.{eq-or-not, sum-lt, sum-same, sum-add, sum-mul}
 

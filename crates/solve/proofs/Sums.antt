@@ -1,7 +1,7 @@
 -- Sums in the field.
 -- Assumes nothing.
 use mathlib.Core.Path.{_≡_, refl, sym, ap, ap₂, _∙_}
-use mathlib.Core.Logic.{_⊎_, inl, inr, ⊎-elim}
+use mathlib.Core.Logic.{_⊎_, inl, inr}
 use Prim.Native.Nat.{ℕ, zero, suc, _+_, _-_, _^_, _<_, _≤_}
 use native.Mathlib.Nat.{zero-lt-suc, not-suc-le-zero}
 use native.Mathlib.Decide.{ℕ-discrete, decLt}
@@ -9,7 +9,7 @@ use native.Mathlib.Omega.{arith}
 use lib.Pow.{pow-pos}
 use Rattle.defs.specs.Field.{add, mul}
 use Rattle.defs.specs.Row.{sum, sumFrom}
-use Rattle.theory.proofs.Field.{add-0, 0-add, add-lt, add-assoc, add-left-comm, mul-0, mul-add-r, sums}
+use Rattle.theory.proofs.Field.{add-0, 0-add, add-lt, mul-0, mul-add-r, sums}
 
 pub eq-or-not : (a b : ℕ) → (a ≡ b) ⊎ (a ≡ b → ⊥)
 eq-or-not a b = go (ℕ-discrete a b)

@@ -10,18 +10,15 @@ use lib.Seq.{getD-set-same, getD-set-other}
 use Rattle.defs.specs.Field.{Width, add, mul}
 use Rattle.defs.specs.Place.{Symbols}
 use Rattle.field.specs.Arithmetic.{Products}
-use Rattle.theory.proofs.Field as Field
 use Rattle.theory.proofs.Field.{add-0, add-lt, mul-0, mul-comm}
+use Rattle.field.proofs.Doubling.{size-le}
 use Rattle.solve.specs.Table.{stride, tableSize, at, Shape}
 use Rattle.solve.specs.Step.{Added, Spread}
 use Rattle.solve.proofs.Sums.{eq-or-not, lt-or-le}
 use Rattle.solve.proofs.Free.{eq-lt}
 
 pub byte : {m a : ℕ} → Width m → a < 2 ^ m → a < 256
-byte W h = ⊎-elim (λ e. omega (arith, rw e at h)) (λ w. ⊎-elim (λ e. omega (arith, rw e at h)) (λ e. rw e at h) w) W
-
-pub one-lt : {m : ℕ} → Width m → 1 < 2 ^ m
-one-lt W = Field.one-lt _ (⊎-elim (λ e. omega arith) (λ w. ⊎-elim (λ e. omega arith) (λ e. omega arith) w) W)
+byte {m} W h = omega (arith, size-le m W)
 
 -- t is the table t₀ where, for a ≤ j < n, f times the entry at s j has been added to the entry at p j
 pub record Wrote (m f : ℕ) (p s : ℕ → ℕ) (t₀ : List ℕ) (a n : ℕ) (t : List ℕ) : Type 0 where

@@ -7,10 +7,11 @@ use Rattle.defs.specs.Field.{Width}
 use Rattle.defs.specs.Place.{Symbols}
 use Rattle.defs.specs.Limits.{longest}
 
--- the entries of a row: an equation for each symbol, and one unknown more than there can be equations
+-- the entries of a row of the table: a system has at most one unknown more than the longest row has symbols
 abbrev pub stride : ℕ
 stride = longest + 1
 
+-- a system has at most one equation for each symbol of the longest row
 abbrev pub tableSize : ℕ
 tableSize = longest * stride
 

@@ -58,7 +58,7 @@ fn add_row(t: &mut [u8; TABLE], m: usize, cols: usize, c: usize, r: usize, p: us
     }
 }
 
-// Makes the pivot in row p 1, and brings it to row c.
+// Makes the pivot in row p 1, and adds its row to row c, which has 0 there, unless it is row c.
 fn bring_pivot(t: &mut [u8; TABLE], m: usize, rows: usize, cols: usize, c: usize, p: usize)
     requires { ⌜ Shape m (now t) ⌝ }
     requires { ⌜ (p < rows) × (rows ≤ longest) × (c < cols) × (cols ≤ stride) ⌝ }
@@ -69,7 +69,7 @@ fn bring_pivot(t: &mut [u8; TABLE], m: usize, rows: usize, cols: usize, c: usize
     ensures { λ _. ⌜ Leads rows c (c + 1) (at (now (t .exit))) ⌝ }
 {
     let a = field::inverse(m, t[p * STRIDE + c]);
-    // x + (a + 1) x = a x
+    // Adding a row to itself scales it: x + (a + 1) x = a x.
     add_row(t, m, cols, c, p, p, a ^ 1);
     if p == c {
         return;

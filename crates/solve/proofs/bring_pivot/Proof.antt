@@ -1,14 +1,13 @@
 -- `solve::bring_pivot` meets its contract.
 -- Assumes nothing.
 use mathlib.Core.Path.{sym}
-use Prim.Native.Nat.{ℕ}
 use native.Mathlib.Omega.{arith}
 use borrow.Author.Needs.{needs}
 use Rattle.defs.specs.Field.{add}
 use Rattle.theory.proofs.Field.{add-lt}
+use Rattle.theory.proofs.Generator.{one-lt}
 use Rattle.solve.proofs.Steps.{alike-trans, added-alike, scaled-alike}
 use Rattle.solve.proofs.Columns.{stairs-one, leads-here, leads-added}
-use Rattle.solve.proofs.Writes.{one-lt}
 use Rattle.solve.proofs.bring_pivot.Statement.{statement}
 use Rattle.solve.proofs.bring_pivot.Tie as tie
 
@@ -33,7 +32,7 @@ add-row-requires c κs =
     let bounds = st .pre .1 .0 in (
       st .pre .0,
       (
-        (add-lt _ _ 1 (c .before .inverse .ensures .small) (one-lt (st .pre .0 .width)), omega arith, omega arith, omega arith, bounds .3),
+        (add-lt _ _ 1 (c .before .inverse .ensures .small) (one-lt _ (st .pre .0 .width)), omega arith, omega arith, omega arith, bounds .3),
         λ j l. st .pre .1 .1 .1 .none _ j (bounds .0) l (omega (arith, st .pre .1 .1 .0 .from)),
       ),
     )
@@ -64,7 +63,7 @@ add-row-requires-2 c κs =
     let bounds = st .pre .1 .0 in (
       ad .add-row .ensures .0,
       (
-        (one-lt (pre .0 .width), omega (arith, pre .1 .1 .0 .from), omega arith, omega arith, bounds .3),
+        (one-lt _ (pre .0 .width), omega (arith, pre .1 .1 .0 .from), omega arith, omega arith, bounds .3),
         λ j l.
             stairs-one _ _ _ _ (bounds .2) _ _ (pre .1 .1 .1) (pre .1 .1 .0) (bounds .0) (pre .0 .symbols _) (iv .inverse .ensures .unit) (ad .add-row .ensures .1)
             .none _ j (bounds .0) l (omega (arith, pre .1 .1 .0 .from)),
@@ -85,7 +84,7 @@ returns-2 c =
       c .add-row2 .ensures .0,
       (
         alike-trans _ _ _ (scaled-alike _ _ _ _ _ _ _ _ A e) (added-alike _ _ _ _ _ _ _ _ B (λ w. el .if1 .left (sym w)) (pre .1 .0 .0)),
-        leads-added _ _ _ _ (pre .1 .0 .2) _ _ (pre .1 .1 .1) (pre .1 .1 .0) (pre .1 .0 .0) (pre .0 .symbols _) e A (one-lt (pre .0 .width)) (el .if1 .left) B,
+        leads-added _ _ _ _ (pre .1 .0 .2) _ _ (pre .1 .1 .1) (pre .1 .1 .0) (pre .1 .0 .0) (pre .0 .symbols _) e A (one-lt _ (pre .0 .width)) (el .if1 .left) B,
       ),
     )
 

@@ -1,13 +1,13 @@
 -- `solve::eliminate` meets its contract.
 -- Assumes nothing.
-use Prim.Native.Nat.{ℕ, _-_, _<_, _≤_}
+use Prim.Native.Nat.{_-_, _≤_}
 use native.Mathlib.Omega.{arith}
 use borrow.Author.Needs.{needs}
+use Rattle.theory.proofs.Generator.{one-lt}
 use Rattle.solve.specs.Table.{at, Shape}
 use Rattle.solve.specs.Step.{Alike, Stairs}
 use Rattle.solve.proofs.Steps.{alike-refl, alike-trans}
 use Rattle.solve.proofs.Free.{answer-free, answer-full}
-use Rattle.solve.proofs.Writes.{one-lt}
 use Rattle.solve.proofs.eliminate.Statement.{statement}
 use Rattle.solve.proofs.eliminate.Tie as tie
 
@@ -41,7 +41,7 @@ returns c =
     let v = al .loop .inv in
     let S = c .substitute .ensures .0 in (
       S,
-      answer-free _ _ _ (v .3) _ _ (omega arith) (v .4) (th .before .find-pivot .ensures) (th .if1 .taken) (c .substitute .ensures .1) (one-lt (S .width))
+      answer-free _ _ _ (v .3) _ _ (omega arith) (v .4) (th .before .find-pivot .ensures) (th .if1 .taken) (c .substitute .ensures .1) (one-lt _ (S .width))
           (λ i j. S .symbols _),
     )
 
