@@ -15,7 +15,7 @@ two-pos : zero < 2
 two-pos = zero-lt-suc 1
 
 -- what holds of 0 and of 1 holds of a bit
-bit : (P : ℕ → Type 0) → P 0 → P 1 → (n : ℕ) → P (n % 2)
+pub bit : (P : ℕ → Type 0) → P 0 → P 1 → (n : ℕ) → P (n % 2)
 bit P p q n = go (n % 2) (mod-lt n two-pos)
   where
     go : (x : ℕ) → x < 2 → P x
@@ -248,9 +248,6 @@ module _ (m : ℕ) where
       ap (λ (x : ℕ). mulBits m m x b) (sym (one-mul-mod a) ∙ sym (mul-mod-l 1 a))
       ∙ sym (respects (λ x. mul m x a) (λ x y. mul-add-l x y a) (λ x. mul-times2-l x a) m (1 % 2 ^ m) b)
       ∙ ap (λ (x : ℕ). mul m x a) (one-mul-mod b) ∙ mul-mod-l b a
-
-  pub mul-mod-r : (a b : ℕ) → mul m a (b % 2 ^ m) ≡ mul m a b
-  mul-mod-r a b = mul-comm a (b % 2 ^ m) ∙ mul-mod-l b a ∙ mul-comm b a
 
   -- (a b) c = (a c) b
   right-comm : (a b c : ℕ) → mul m (mul m a b) c ≡ mul m (mul m a c) b
