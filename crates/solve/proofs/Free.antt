@@ -10,11 +10,12 @@ use lib.Pow.{pow-pos}
 use Rattle.defs.specs.Field.{add, mul}
 use Rattle.defs.specs.Row.{sum}
 use Rattle.theory.proofs.Field.{add-0, add-self, mul-0, 0-mul, one-mul-of-lt}
+use Rattle.theory.proofs.Sum.{sum-zero, sum-from}
 use Rattle.solve.specs.System.{Matrix, Solves, free}
 use Rattle.solve.specs.Step.{Pivot, Alike, Stairs, Back}
 use Rattle.solve.specs.Answer.{IsFree, IsFull, Answers}
 use Rattle.solve.specs.declared.Solved.{Solved}
-use Rattle.solve.proofs.Sums.{eq-or-not, lt-or-le, sum-zero, sum-cut, sum-from, tail-more, tail-zero}
+use Rattle.solve.proofs.Sums.{eq-or-not, lt-or-le, sum-cut, tail-more, tail-zero}
 
 pub eq-lt : {a b q : ℕ} → a ≡ b → b < q → a < q
 eq-lt e h = rw e h
@@ -51,7 +52,7 @@ module _ (m rows cols c : ℕ) (M N : Matrix) (below : c < cols) (S : Stairs row
 
     above : i < c → sum (suc c) term ≡ 0
     above h =
-        sum-from i (suc c) term (λ j k. no-term j (S .none i j l (omega arith) k)) (omega arith) ∙ tail-more i (suc c) term (omega arith)
+        sum-from i (suc c) term (λ j k. no-term j (S .none i j l (omega arith) k)) ∙ tail-more i (suc c) term (omega arith)
         ∙ ap₂ add (ap₂ (mul m) (S .one i h) (free-below N c i h) ∙ one-mul-of-lt m (N i c) (small i c)) (sym (B .asked i h)) ∙ add-self (N i c)
 
     past : c ≤ i → sum (suc c) term ≡ 0
@@ -75,7 +76,7 @@ module _ (m rows cols : ℕ) (M : Matrix) (S : Stairs rows cols M) (fits : cols 
   last-zero zero j h l = absurd (omega arith)
   last-zero (suc n) j h l =
       sym
-      (sum-from j cols term (λ k g. ap (λ (a : ℕ). mul m a (x k)) (S .none j k (omega arith) (omega arith) g) ∙ 0-mul m (x k)) (omega arith)
+      (sum-from j cols term (λ k g. ap (λ (a : ℕ). mul m a (x k)) (S .none j k (omega arith) (omega arith) g) ∙ 0-mul m (x k))
       ∙ tail-more j cols term l
       ∙ ap₂ add (ap (λ (a : ℕ). mul m a (x j)) (S .one j l) ∙ one-mul-of-lt m (x j) (hx j))
       (tail-zero (suc j) cols term (λ k g i. ap (mul m (M j k)) (last-zero n k (omega arith) i) ∙ mul-0 m (M j k)))

@@ -6,9 +6,10 @@ use Prim.Native.Nat.{ℕ, _^_, _<_, _≤_}
 use native.Mathlib.Omega.{arith}
 use Rattle.defs.specs.Field.{add, mul}
 use Rattle.theory.proofs.Field.{add-0, mul-lt, mul-0, mul-add-l, mul-assoc, one-mul-of-lt, sums}
+use Rattle.theory.proofs.Sum.{sum-ext, sum-add, sum-scale}
 use Rattle.solve.specs.System.{Matrix, dot}
 use Rattle.solve.specs.Step.{Added, Alike, Stairs}
-use Rattle.solve.proofs.Sums.{eq-or-not, sum-lt, sum-same, sum-add, sum-mul}
+use Rattle.solve.proofs.Sums.{eq-or-not, sum-lt}
 
 -- a d and a + 1 times d are together a times d, so that adding a row to itself scales it
 pub scaled : (m a d : ℕ) → d < 2 ^ m → add d (mul m (add a 1) d) ≡ mul m a d
@@ -30,15 +31,15 @@ module _ (m rows cols : ℕ) where
   module _ (r p f : ℕ) (M N : Matrix) (A : Added m cols r p f M N) where
     other-row : (i : ℕ) (x : ℕ → ℕ) → (i ≡ r → ⊥) → dot m N cols i x ≡ dot m M cols i x
     other-row i x n =
-        sum-same cols (λ j. mul m (N i j) (x j)) (λ j. mul m (M i j) (x j)) (λ j l. ap (λ (a : ℕ). mul m a (x j)) (A .others i j n l))
+        sum-ext cols (λ j. mul m (N i j) (x j)) (λ j. mul m (M i j) (x j)) (λ j l. ap (λ (a : ℕ). mul m a (x j)) (A .others i j n l))
 
     this-row : (x : ℕ → ℕ) → dot m N cols r x ≡ add (dot m M cols r x) (mul m f (dot m M cols p x))
     this-row x =
-        sum-same cols (λ j. mul m (N r j) (x j)) (λ j. add (mul m (M r j) (x j)) (mul m f (mul m (M p j) (x j))))
+        sum-ext cols (λ j. mul m (N r j) (x j)) (λ j. add (mul m (M r j) (x j)) (mul m f (mul m (M p j) (x j))))
         (λ j l. ap (λ (a : ℕ). mul m a (x j)) (A .row j l) ∙ mul-add-l m (M r j) (mul m f (M p j)) (x j)
         ∙ ap (add (mul m (M r j) (x j))) (mul-assoc m f (M p j) (x j)))
         ∙ sum-add cols (λ j. mul m (M r j) (x j)) (λ j. mul m f (mul m (M p j) (x j)))
-        ∙ ap (add (dot m M cols r x)) (sum-mul m cols f (λ j. mul m (M p j) (x j)))
+        ∙ ap (add (dot m M cols r x)) (sum-scale m cols f (λ j. mul m (M p j) (x j)))
 
     pub added-alike : (r ≡ p → ⊥) → p < rows → Alike m rows cols M N
     added-alike n hp = record {

@@ -11,7 +11,7 @@ use Rattle.theory.proofs.Field.{add-0, add-comm, mul-comm, one-mul-of-lt}
 use Rattle.solve.specs.Table.{stride}
 use Rattle.solve.specs.System.{Matrix, free}
 use Rattle.solve.specs.Step.{Spread, Back}
-use Rattle.solve.proofs.Sums.{eq-or-not, lt-or-le, tail-none, tail-more, tail-same}
+use Rattle.solve.proofs.Sums.{eq-or-not, lt-or-le, tail-more, tail-same, tail-zero}
 use Rattle.solve.proofs.Free.{free-below, free-here, free-past}
 
 -- unknowns from k on are in column c of N; above row k that column has what they make of each row of M
@@ -40,7 +40,7 @@ module _ (m c : ℕ) {M : Matrix} where
         sym
         (tail-more c (suc c) (λ j. mul m (M i j) (free M c j)) (le-refl (suc c))
         ∙ ap₂ add (ap (mul m (M i c)) (free-here M c) ∙ mul-comm m (M i c) 1 ∙ one-mul-of-lt m (M i c) (small i c))
-        (tail-none (suc c) (λ j. mul m (M i j) (free M c j)))
+        (tail-zero (suc c) (suc c) (λ j. mul m (M i j) (free M c j)) (λ j a b. absurd (omega arith)))
         ∙ add-0 (M i c));
     others = λ i j h n. refl;
   }
@@ -68,7 +68,7 @@ module _ (m c : ℕ) {M : Matrix} where
 
       same : (i p : ℕ) → p < c → k ≤ p → sumFrom (suc p) (suc c) (λ j. mul m (M i j) (free N c j)) ≡ sumFrom (suc p) (suc c) (λ j. mul m (M i j) (free K c j))
       same i p lp h =
-          tail-same (suc p) (suc c) (λ j. mul m (M i j) (free N c j)) (λ j. mul m (M i j) (free K c j)) (omega arith)
+          tail-same (suc p) (suc c) (λ j. mul m (M i j) (free N c j)) (λ j. mul m (M i j) (free K c j))
           (λ j g. ap (mul m (M i j)) (free-same c k N K (S .below) j (omega arith)))
 
   pub backing-all : {k : ℕ} {N : Matrix} → k ≤ 0 → Backing m c k M N → Back m c M N
