@@ -41,7 +41,7 @@ returns c =
     let v = al .loop .inv in
     let S = c .substitute .ensures .0 in (
       S,
-      answer-free _ _ _ (v .3) _ _ (omega arith) (v .4) (th .before .find-pivot .ensures) (th .if1 .taken) (c .substitute .ensures .1) (one-lt _ (S .width))
+      answer-free _ _ _ (v .3) _ _ (th .before .before .before .loop-test .taken) (v .4) (th .before .find-pivot .ensures) (th .if1 .taken) (c .substitute .ensures .1) (one-lt _ (S .width))
           (λ i j. S .symbols _),
     )
 
