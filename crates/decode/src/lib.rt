@@ -1,10 +1,18 @@
 // Decode: the quotient of a pair, what comes out measured against the row, and the call.
 ghost use mathlib.Core.Path.{_≡_};
 ghost use Prim.Native.Nat.{_≤_};
-ghost use lib.ListN.{length};
+ghost use lib.ListN.{length, take};
+ghost use Rattle.defs.specs.Field.{Width};
+ghost use Rattle.defs.specs.Distance.{radius};
+ghost use Rattle.code.specs.Checked.{IsCode};
 ghost use Rattle.decode.specs.Quotient.{Terms, Fits, TakenOff, Divisible, Divided, Dividing, Quotient};
+ghost use Rattle.decode.specs.Search.{restVerdict, Candidate, Sent, IsSought, Measured};
 
+use defs::Answer;
+use defs::Code;
 use defs::LONGEST;
+use defs::Refusal;
+use defs::Verdict;
 
 // How many of the first coefficients of q there are up to the highest that is not zero.
 fn terms(q: &[u8], size: usize) -> usize
@@ -63,3 +71,59 @@ fn quotient(m: usize, k: usize, size: usize, q0: [u8; LONGEST], q1: [u8; LONGEST
     }
     f
 }
+
+fn radius(n: usize, k: usize) -> usize
+    requires { ⌜ k ≤ n ⌝ }
+    ensures { λ t. ⌜ t ≡ radius n k ⌝ }
+{
+    (n - k) / 2
+}
+
+// A message near to a row, and its own row, where the verdict is fine.
+pub struct Sought {
+    pub verdict: Verdict,
+    pub message: [u8; LONGEST],
+    pub row: [u8; LONGEST],
+}
+
+fn nothing(v: Verdict) -> Sought
+    ensures { λ s. ⌜ s .verdict ≡ v ⌝ }
+{
+    let message = [0u8; LONGEST];
+    let row = [0u8; LONGEST];
+    Sought {
+        verdict: v,
+        message,
+        row,
+    }
+}
+
+// Copies the front of a message.
+fn copy(found: [u8; LONGEST], message: &mut [u8])
+    requires { ⌜ length (now message) ≤ length found ⌝ }
+    ensures { λ _. ⌜ now (message .exit) ≡ take (length (now (message .entry))) found ⌝ }
+{
+    let mut i = 0;
+    while i < message.len() {
+        message[i] = found[i];
+        i += 1;
+    }
+}
+
+// 7 and 8: n symbols in the row, and room for k symbols and count depths.
+fn check_rest(m: usize, n: usize, k: usize, count: usize, row: &[u8], size: usize, deep: usize) -> Verdict
+    requires { ⌜ Width m ⌝ }
+    ensures { λ v. ⌜ v ≡ restVerdict m n k count (now (row .entry)) size deep ⌝ }
+{
+    if row.len() != n {
+        return Verdict::Refused(Refusal::Length);
+    }
+    if size != k {
+        return Verdict::Refused(Refusal::Length);
+    }
+    if deep != count {
+        return Verdict::Refused(Refusal::Length);
+    }
+    code::check_symbols(m, row)
+}
+
