@@ -1,31 +1,32 @@
 -- Turns of the loops of long division.
 use Prim.Native.Nat.{ℕ, suc, _+_, _-_, _^_, _<_, _≤_}
 use mathlib.Core.Path.{_≡_, refl, ap, sym, subst, _∙_}
-use mathlib.Core.List.{List}
+use mathlib.Core.List.{List, _++_}
 use native.Mathlib.Decide.{decLe, decLt, ℕ-discrete}
 use native.Mathlib.Omega.{arith}
 use lib.Bits.{bitXor}
-use lib.ListN.{length, getD, set, length-set}
-use lib.Seq.{getD-set-same, getD-set-other, set-out}
+use lib.ListN.{length, getD, drop, set, replicate, length-set, length-append, length-drop, length-replicate, List·getD-append, List·getD-eq-default}
+use lib.Seq.{getD-set-same, getD-set-other, set-out, getD-append-add, getD-drop}
 use Rattle.defs.specs.Field.{add, mul}
 use Rattle.defs.specs.Place.{Symbols}
 use Rattle.defs.specs.Row.{Message}
 use Rattle.defs.specs.Limits.{longest}
+use Rattle.defs.specs.Write.{front}
 use Rattle.theory.specs.Poly.{pmul}
 use Rattle.theory.specs.Vanish.{Deg, Same}
 use Rattle.theory.specs.Quotient.{Remains}
 use Rattle.theory.proofs.Field.{add-lt, mul-lt, add-0, mul-0}
+use Rattle.theory.proofs.Place.{zeros-zero}
 use Rattle.theory.proofs.Quotient.{remains-first, remains-found, remains-turn}
 use Rattle.field.specs.Arithmetic.{Element, Products}
 use Rattle.decode.specs.Quotient.{Terms, TakenOff, Divisible, Divided, Dividing, Quotient}
 
 -- coefficients that are 0 from c on, and one more
-pub zeros-down : (q : List ℕ) (size c : ℕ) → ((i : ℕ) → c ≤ i → i < size → getD q i 0 ≡ 0) → getD q (c - 1) 0 ≡ 0
-    → (i : ℕ) → c - 1 ≤ i → i < size → getD q i 0 ≡ 0
-zeros-down q size c z e i l l′ = go (decLe c i)
+pub zeros-down : (q : List ℕ) (c : ℕ) → Deg c q → getD q (c - 1) 0 ≡ 0 → Deg (c - 1) q
+zeros-down q c z e i l = go (decLe c i)
   where
     go : Dec (c ≤ i) → getD q i 0 ≡ 0
-    go (yes h) = z i h l′
+    go (yes h) = z i h
     go (no h) =
         let s : i ≡ c - 1 = omega arith in
         ap (λ (x : ℕ). getD q x 0) s ∙ e
@@ -98,6 +99,25 @@ divided m v q c at rem a products rem′ d e p t =
         let e : at + (x - at) ≡ x = omega arith in
         subst (λ (y : ℕ). getD rem′ y 0 < 2 ^ m) e (rw (off (x - at) (omega arith)) (add-lt m _ _ (d .dividend _) (mul-lt m a _)))
 
+-- a list with zeros behind it has its coefficients
+front-zeros : (q : List ℕ) (n : ℕ) → Same (front q (replicate n 0)) q
+unfolding front
+front-zeros q n i = go (decLt i (length q))
+  where
+    go : Dec (i < length q) → getD (q ++ drop (length q) (replicate n 0)) i 0 ≡ getD q i 0
+    go (yes l) = List·getD-append q _ 0 i l
+    go (no l) =
+        let e : i ≡ length q + (i - length q) = omega arith in
+        ap (λ (x : ℕ). getD (q ++ drop (length q) (replicate n 0)) x 0) e
+        ∙ getD-append-add q (drop (length q) (replicate n 0)) (i - length q) 0
+        ∙ getD-drop (length q) (replicate n 0) (i - length q) 0
+        ∙ zeros-zero n _ ∙ sym (List·getD-eq-default q 0 (omega arith))
+
+length-front-zeros : (q : List ℕ) (n : ℕ) → length q ≤ n → length (front q (replicate n 0)) ≡ n
+unfolding front
+length-front-zeros q n l =
+    length-append q (drop (length q) (replicate n 0)) ∙ omega (arith, length-drop (length q) (replicate {A = ℕ} n 0), length-replicate {A = ℕ} n 0)
+
 -- the loop of the quotient: f has the message's coefficients from at on, and rem is what is left
 pub record Going (m k : ℕ) (q₀ q₁ f rem : List ℕ) (at : ℕ) : Type 0 where
   pub long : length f ≡ longest
@@ -108,23 +128,18 @@ pub record Going (m k : ℕ) (q₀ q₁ f rem : List ℕ) (at : ℕ) : Type 0 wh
   pub found : (g : List ℕ) → Message m k g → Same q₀ (pmul m g q₁)
       → Remains m g q₁ at (λ x. getD rem x 0) × ((i : ℕ) → at ≤ i → i < k → getD f i 0 ≡ getD g i 0)
 
-module _ (m k size : ℕ) (q₀ q₁ : List ℕ) (d : Dividing m k size q₀ q₁) (c : ℕ) (t : Terms q₁ size c) where
-  pub degree-terms : Deg c q₁
-  degree-terms i l = go (decLt i size)
-    where
-      go : Dec (i < size) → getD q₁ i 0 ≡ 0
-      go (yes h) = t .above i l h
-      go (no h) = d .degree i (omega arith)
-
-  pub going-first : (f : List ℕ) → length f ≡ longest → Symbols m f → Going m k q₀ q₁ f q₀ k
-  going-first f e s =
+module _ (m k : ℕ) (q₀ q₁ : List ℕ) (d : Dividing m k q₀ q₁) (c : ℕ) (t : Terms q₁ c) where
+  -- rem has q₀, and 0 behind it
+  pub going-first : (f rem : List ℕ) → length f ≡ longest → Symbols m f → rem ≡ front q₀ (replicate longest 0) → Going m k q₀ q₁ f rem k
+  going-first f rem e s h =
+      let same : Same rem q₀ = rw h (front-zeros q₀ longest) in
       record {
         long = e;
         symbols = s;
-        long-rem = d .long₀;
-        symbols-rem = d .symbols₀;
+        long-rem = ap length h ∙ length-front-zeros q₀ longest (d .long);
+        symbols-rem = λ i. rw (same i) (d .symbols₀ i);
         within = omega arith;
-        found = λ g g-is same. (remains-first m q₁ g q₀ k (g-is .size) same, λ i l l′. absurd (omega arith));
+        found = λ g g-is eq. (remains-first m q₁ g rem k (g-is .size) (λ i. same i ∙ eq i), λ i l l′. absurd (omega arith));
       }
 
   module _ (v : ℕ) (some : 0 < c) (unit : mul m (getD q₁ (c - 1) 0) v ≡ 1) where
@@ -143,7 +158,7 @@ module _ (m k size : ℕ) (q₀ q₁ : List ℕ) (d : Dividing m k size q₀ q�
         off : (g : List ℕ) → a ≡ getD g i 0 → (j : ℕ) → Dec (j < c)
             → getD rem′ (i + j) 0 ≡ add (getD rem (i + j) 0) (mul m (getD g i 0) (getD q₁ j 0))
         off g is j (yes l) = rw (← is) (y .off j l)
-        off g is j (no l) = rw (degree-terms j (omega arith), mul-0, add-0) (y .behind (i + j) (omega arith))
+        off g is j (no l) = rw (t .above j (omega arith), mul-0, add-0) (y .behind (i + j) (omega arith))
 
         last : (g : List ℕ) → a ≡ getD g i 0 → ((j : ℕ) → suc i ≤ j → j < k → getD f j 0 ≡ getD g j 0)
             → (j : ℕ) → i ≤ j → j < k → Dec (j ≡ i) → getD (set f i a) j 0 ≡ getD g j 0
@@ -153,7 +168,7 @@ module _ (m k size : ℕ) (q₀ q₁ : List ℕ) (d : Dividing m k size q₀ q�
         turn : (g : List ℕ) → Message m k g → Remains m g q₁ (suc i) (λ x. getD rem x 0) × ((j : ℕ) → suc i ≤ j → j < k → getD f j 0 ≡ getD g j 0)
             → Remains m g q₁ i (λ x. getD rem′ x 0) × ((j : ℕ) → i ≤ j → j < k → getD (set f i a) j 0 ≡ getD g j 0)
         turn g g-is (remains, done) =
-            let deg : Deg (suc (c - 1)) q₁ = λ j l. degree-terms j (omega arith) in
+            let deg : Deg (suc (c - 1)) q₁ = λ j l. t .above j (omega arith) in
             let is : a ≡ getD g i 0 = y .is ∙ remains-found m q₁ g (c - 1) i v (λ x. getD rem x 0) deg remains (g-is .symbols i) unit in
             (remains-turn m q₁ g i (λ x. getD rem x 0) (λ x. getD rem′ x 0) remains (y .before) (λ j. off g is j (decLt j c)),
             λ j l l′. last g is done j l l′ (ℕ-discrete j i))
@@ -162,7 +177,7 @@ module _ (m k size : ℕ) (q₀ q₁ : List ℕ) (d : Dividing m k size q₀ q�
         → Divided m v q₁ c (at - 1) rem a rem′ → Going m k q₀ q₁ (set f (at - 1) a) rem′ (at - 1)
     going-turn f rem at a rem′ l x y =
         let e : at ≡ suc (at - 1) = omega arith in
-        going-more f rem (at - 1) a rem′ (omega (arith, x .within, d .room, t .within)) (subst (Going m k q₀ q₁ f rem) e x) y
+        going-more f rem (at - 1) a rem′ (omega (arith, x .within, d .room, d .long, some, t .within)) (subst (Going m k q₀ q₁ f rem) e x) y
 
     pub going-divisible : (f rem : List ℕ) (at : ℕ) → v < 2 ^ m → 0 < at → Going m k q₀ q₁ f rem at → Divisible m v q₁ c (at - 1) rem
     going-divisible f rem at small l x =
@@ -174,8 +189,8 @@ module _ (m k size : ℕ) (q₀ q₁ : List ℕ) (d : Dividing m k size q₀ q�
           some = some;
           fits =
               record {
-                long = omega (arith, t .within, d .within, d .long₁);
-                room = omega (arith, t .within, d .room, x .within, x .long-rem);
+                long = t .within;
+                room = omega (arith, t .within, d .room, d .long, x .within, x .long-rem);
               };
         }
 
@@ -185,4 +200,4 @@ module _ (m k size : ℕ) (q₀ q₁ : List ℕ) (d : Dividing m k size q₀ q�
       record { long = x .long; symbols = x .symbols; exact = λ g g-is ne same i l′. x .found g g-is same .1 i (omega arith) l′ }
 
   pub no-divisor : (f : List ℕ) → c ≡ 0 → length f ≡ longest → Symbols m f → Quotient m k q₀ q₁ f
-  no-divisor f e long s = record { long = long; symbols = s; exact = λ g g-is ne same. absurd (ne (λ i. degree-terms i (omega arith))) }
+  no-divisor f e long s = record { long = long; symbols = s; exact = λ g g-is ne same. absurd (ne (λ i. t .above i (omega arith))) }

@@ -11,10 +11,10 @@ use Rattle.defs.specs.Limits.{longest}
 use Rattle.theory.specs.Poly.{pmul}
 use Rattle.theory.specs.Vanish.{Deg, Same}
 
--- of the first size coefficients of q, those from c on are 0, and the one before is not
-pub record Terms (q : List ℕ) (size c : ℕ) : Type 0 where
-  pub within : c ≤ size
-  pub above : (i : ℕ) → c ≤ i → i < size → getD q i 0 ≡ 0
+-- the coefficients of q from c on are 0, and the one before is not
+pub record Terms (q : List ℕ) (c : ℕ) : Type 0 where
+  pub within : c ≤ length q
+  pub above : Deg c q
   pub top : 0 < c → getD q (c - 1) 0 ≡ 0 → ⊥
 
 -- c coefficients of q fit on rem, at places up
@@ -48,16 +48,13 @@ pub record Divided (m v : ℕ) (q : List ℕ) (c at : ℕ) (rem : List ℕ) (a :
   pub off : (i : ℕ) → i < c → getD rem′ (at + i) 0 ≡ add (getD rem (at + i) 0) (mul m a (getD q i 0))
   pub behind : (p : ℕ) → at + c ≤ p → getD rem′ p 0 ≡ getD rem p 0
 
--- q₁ has coefficients before size only, and k of the quotient fit
-pub record Dividing (m k size : ℕ) (q₀ q₁ : List ℕ) : Type 0 where
+-- the k coefficients of the quotient of q₀ by q₁ are asked for
+pub record Dividing (m k : ℕ) (q₀ q₁ : List ℕ) : Type 0 where
   pub width : Width m
   pub symbols₀ : Symbols m q₀
   pub symbols₁ : Symbols m q₁
-  pub long₀ : length q₀ ≡ longest
-  pub long₁ : length q₁ ≡ longest
-  pub degree : Deg size q₁
-  pub within : size ≤ longest
-  pub room : k + size ≤ suc longest
+  pub long : length q₀ ≤ longest
+  pub room : k + length q₁ ≤ suc (length q₀)
 
 -- where q₀ is the product of q₁ and a message of k symbols, f has that message
 pub record Quotient (m k : ℕ) (q₀ q₁ f : List ℕ) : Type 0 where

@@ -1,10 +1,11 @@
 // Decode: the quotient of a pair, what comes out measured against the row, and the call.
 ghost use mathlib.Core.Path.{_≡_};
 ghost use Prim.Native.Nat.{_≤_};
-ghost use lib.ListN.{length, take};
+ghost use lib.ListN.{length};
 ghost use Rattle.defs.specs.Field.{Width};
 ghost use Rattle.defs.specs.Distance.{radius};
 ghost use Rattle.code.specs.Checked.{IsCode};
+ghost use Rattle.rows.specs.Chunk.{Rows};
 ghost use Rattle.decode.specs.Quotient.{Terms, Fits, TakenOff, Divisible, Divided, Dividing, Quotient};
 ghost use Rattle.decode.specs.Search.{restVerdict, Candidate, Sent, IsSought, Measured};
 
@@ -14,12 +15,11 @@ use defs::LONGEST;
 use defs::Refusal;
 use defs::Verdict;
 
-// How many of the first coefficients of q there are up to the highest that is not zero.
-fn terms(q: &[u8], size: usize) -> usize
-    requires { ⌜ size ≤ length (now q) ⌝ }
-    ensures { λ c. ⌜ Terms (now (q .entry)) size c ⌝ }
+// How many coefficients of q there are up to the highest that is not zero.
+fn terms(q: &[u8]) -> usize
+    ensures { λ c. ⌜ Terms (now (q .entry)) c ⌝ }
 {
-    let mut c = size;
+    let mut c = q.len();
     while 0 < c {
         if q[c - 1] != 0 {
             return c;
@@ -53,21 +53,22 @@ fn divide_at(m: usize, v: u8, q: &[u8], c: usize, at: usize, rem: &mut [u8]) -> 
 }
 
 // The quotient of k coefficients, from the top down.
-fn quotient(m: usize, k: usize, size: usize, q0: [u8; LONGEST], q1: [u8; LONGEST]) -> [u8; LONGEST]
-    requires { ⌜ Dividing m k size q0 q1 ⌝ }
-    ensures { λ f. ⌜ Quotient m k q0 q1 f ⌝ }
+fn quotient(m: usize, k: usize, q0: &[u8], q1: &[u8]) -> [u8; LONGEST]
+    requires { ⌜ Dividing m k (now q0) (now q1) ⌝ }
+    ensures { λ f. ⌜ Quotient m k (now (q0 .entry)) (now (q1 .entry)) f ⌝ }
 {
     let mut f = [0u8; LONGEST];
-    let mut rem = q0;
-    let c = terms(&q1, size);
+    let c = terms(q1);
     if c == 0 {
         return f;
     }
     let v = field::inverse(m, q1[c - 1]);
+    let mut rem = [0u8; LONGEST];
+    code::copy(q0, &mut rem);
     let mut at = k;
     while 0 < at {
         at -= 1;
-        f[at] = divide_at(m, v, &q1, c, at, &mut rem);
+        f[at] = divide_at(m, v, q1, c, at, &mut rem);
     }
     f
 }
@@ -77,6 +78,17 @@ fn radius(n: usize, k: usize) -> usize
     ensures { λ t. ⌜ t ≡ radius n k ⌝ }
 {
     (n - k) / 2
+}
+
+// The row of a message of the code, of n symbols.
+fn row_of(code: Code, message: [u8; LONGEST], n: usize) -> [u8; LONGEST]
+    requires { ⌜ Candidate code message n ⌝ }
+    ensures { λ u. ⌜ Sent code message n u ⌝ }
+{
+    let k = code.k;
+    let mut row = [0u8; LONGEST];
+    rows::write_row(code, &message[0..k], &mut row[0..n]);
+    row
 }
 
 // A message near to a row, and its own row, where the verdict is fine.
@@ -98,16 +110,20 @@ fn nothing(v: Verdict) -> Sought
     }
 }
 
-// Copies the front of a message.
-fn copy(found: [u8; LONGEST], message: &mut [u8])
-    requires { ⌜ length (now message) ≤ length found ⌝ }
-    ensures { λ _. ⌜ now (message .exit) ≡ take (length (now (message .entry))) found ⌝ }
+// Writes the depth of damage in each chunk, and answers their sum.
+fn write_depths(r: usize, sent: &[u8], row: &[u8], depths: &mut [u8]) -> usize
+    requires { ⌜ Rows r (length (now depths)) (now sent) (now row) ⌝ }
+    ensures { λ t. ⌜ Measured r (now (sent .entry)) (now (row .entry)) (now (depths .entry)) t (now (depths .exit)) ⌝ }
 {
+    let mut total = 0;
     let mut i = 0;
-    while i < message.len() {
-        message[i] = found[i];
+    while i < depths.len() {
+        let d = rows::chunk_damage(r, sent, row, i);
+        depths[i] = d as u8;
+        total += d;
         i += 1;
     }
+    total
 }
 
 // 7 and 8: n symbols in the row, and room for k symbols and count depths.
