@@ -1,0 +1,6 @@
+-- Why the functions are right.
+pub mod Rules
+pub mod Pascal
+pub mod Elements
+pub mod Squaring
+pub mod Doubling
