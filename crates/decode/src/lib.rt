@@ -87,7 +87,7 @@ fn row_of(code: Code, message: [u8; LONGEST], n: usize) -> [u8; LONGEST]
 {
     let k = code.k;
     let mut row = [0u8; LONGEST];
-    rows::write_row(code, &message[0..k], &mut row[0..n]);
+    rows::write_row(code, &message[..k], &mut row[..n]);
     row
 }
 

@@ -1,78 +1,67 @@
+-- `decode::quotient` meets its contract: from the top down, what is left is the product of the divisor and the message's low part.
+use mathlib.Core.Path.{refl}
 use borrow.Author.Needs.{needs}
+use native.Mathlib.Omega.{arith}
+use Rattle.theory.proofs.Place.{zeros-symbols}
+use Rattle.decode.proofs.Division.{Going, going-first, going-turn, going-divisible, going-last, no-divisor}
 use Rattle.decode.proofs.quotient.Statement.{statement}
 use Rattle.decode.proofs.quotient.Tie as tie
-use Rattle.decode.proofs.quotient.Reads as reads
-use Rattle.decode.proofs.quotient.Lts as lts
-use Rattle.code.proofs.copy.Reads as copy-reads
-use Rattle.decode.proofs.divide_at.Reads as divide-at-reads
-use Rattle.decode.proofs.terms.Reads as terms-reads
-use Rattle.field.proofs.inverse.Reads as inverse-reads
 
 abbrev Inv-loop : tie.InvT-loop
-Inv-loop m k q0 q1 f₀ c v rem₀ at₀ f rem at = ?
+Inv-loop m k q0 q1 f₀ c v rem₀ at₀ f rem at = Going m k q0 q1 f rem at
 
 abbrev μ-loop : tie.MeasureT-loop
-μ-loop m k q0 q1 f₀ c v rem₀ at₀ f rem at = ?
+μ-loop m k q0 q1 f₀ c v rem₀ at₀ f rem at = at
 
--- src/lib.rt:61:9
 terms-requires : tie.Need-terms-requires Inv-loop μ-loop
 terms-requires c κs = search needs
 
--- src/lib.rt:63:9
 returns : tie.Need-returns Inv-loop μ-loop
-returns c = search needs
+returns c = no-divisor _ _ _ _ (c .before .before .before .before .pre) _ (c .before .terms .ensures) _ (c .if1 .taken) refl (zeros-symbols _ 128)
 
--- src/lib.rt:65:34
 sub-inverse : tie.Need-sub-inverse Inv-loop μ-loop
 sub-inverse c = search needs
 
--- src/lib.rt:65:31
 shared-slice-read-inverse : tie.Need-shared-slice-read-inverse Inv-loop μ-loop
 shared-slice-read-inverse c = search needs
 
--- src/lib.rt:65:9
 inverse-requires : tie.Need-inverse-requires Inv-loop μ-loop
-inverse-requires c κs = search needs
+inverse-requires c κs =
+    (c .before .before .before .before .before .pre .width, (c .before .before .before .before .before .pre .symbols₁ _, c .before .before .terms .ensures .top (omega arith)))
 
--- src/lib.rt:67:20
 slice-aggregate-copy : tie.Need-slice-aggregate-copy Inv-loop μ-loop
 slice-aggregate-copy c = search needs
 
--- src/lib.rt:67:5
 copy-requires : tie.Need-copy-requires Inv-loop μ-loop
-copy-requires c κs = search needs
+copy-requires c κs = omega (arith, c .before .before .before .before .before .before .before .pre .long)
 
--- src/lib.rt:69:5
 loop-holds : tie.Need-loop-holds Inv-loop μ-loop
-loop-holds c = search needs
+loop-holds c = going-first _ _ _ _ (c .before .before .before .before .before .before .before .before .before .pre) _ (c .before .before .before .before .before .before .terms .ensures) _ _ refl (zeros-symbols _ 128) (c .before .copy .ensures)
 
--- src/lib.rt:70:9
 sub-at : tie.Need-sub-at Inv-loop μ-loop
 sub-at c = search needs
 
--- src/lib.rt:71:44
 slice-aggregate-divide-at : tie.Need-slice-aggregate-divide-at Inv-loop μ-loop
 slice-aggregate-divide-at c = search needs
 
--- src/lib.rt:71:17
 divide-at-requires : tie.Need-divide-at-requires Inv-loop μ-loop
-divide-at-requires c κs = search needs
+divide-at-requires c κs =
+    going-divisible _ _ _ _ (c .before .before .before .before .before .before .before .before .before .before .before .before .pre) _ (c .before .before .before .before .before .before .before .before .before .terms .ensures) _ (omega (arith, c .before .before .before .before .before .before .before .before .if1 .left))
+    (c .before .before .before .before .before .before .inverse .ensures .unit) _ _ _ (c .before .before .before .before .before .before .inverse .ensures .small) (c .before .loop-test .taken) (c .before .before .loop .inv)
 
--- src/lib.rt:71:9
 array-write-f : tie.Need-array-write-f Inv-loop μ-loop
 array-write-f c = search needs
 
--- src/lib.rt:69:5
 loop-less : tie.Need-loop-less Inv-loop μ-loop
 loop-less c = search needs
 
--- src/lib.rt:69:5
 loop-again : tie.Need-loop-again Inv-loop μ-loop
-loop-again c = search needs
+loop-again c =
+    going-turn _ _ _ _ (c .before .before .before .before .before .before .before .before .before .before .before .before .before .before .pre) _ (c .before .before .before .before .before .before .before .before .before .before .before .terms .ensures) _ (omega (arith, c .before .before .before .before .before .before .before .before .before .before .if1 .left))
+    (c .before .before .before .before .before .before .before .before .inverse .ensures .unit) _ _ _ _ _ (c .before .before .before .loop-test .taken) (c .before .before .before .before .loop .inv) (c .before .divide-at .ensures)
 
--- src/lib.rt:56:1
 returns-2 : tie.Need-returns-2 Inv-loop μ-loop
-returns-2 c = search needs
+returns-2 c = going-last _ _ _ _ (c .before .before .before .before .before .before .before .before .before .before .before .pre) _ (c .before .before .before .before .before .before .before .before .terms .ensures) _ _ _ (c .loop-test .left) (c .before .loop .inv)
 
 pub quotient-spec : {M : Type 1} → statement M
 quotient-spec =

@@ -1,51 +1,38 @@
-use borrow.Author.Needs.{needs}
+-- `decode::row_of` meets its contract: what is written stands at the front of the array.
+use mathlib.Core.Path.{refl, sym}
+use native.Mathlib.Omega.{arith}
+use lib.Seq.{length-take-le}
+use Rattle.decode.proofs.Outcome.{row-short, message-short, writable, sent-front}
 use Rattle.decode.proofs.row_of.Statement.{statement}
 use Rattle.decode.proofs.row_of.Tie as tie
-use Rattle.decode.proofs.row_of.Reads as reads
-use Rattle.decode.proofs.row_of.Lts as lts
-use Rattle.rows.proofs.write_row.Reads as write-row-reads
 
--- src/lib.rt:90:27
-sub-write-row : tie.Need-sub-write-row
-sub-write-row c = search needs
+array-share-prefix-message : tie.Need-array-share-prefix-message
+array-share-prefix-message c = omega (arith, message-short _ _ _ (c .pre), c .pre .long)
 
--- src/lib.rt:90:27
-part-write-row-start : tie.Need-part-write-row-start
-part-write-row-start c = search needs
+slice-aggregate-write-row : tie.Need-slice-aggregate-write-row
+slice-aggregate-write-row c =
+    sym (length-take-le _ (c .before .args .t2) (omega (arith, message-short _ _ _ (c .before .pre), c .before .pre .long)))
 
--- src/lib.rt:90:27
-part-write-row-end : tie.Need-part-write-row-end
-part-write-row-end c = search needs
+array-borrow-prefix-row : tie.Need-array-borrow-prefix-row
+array-borrow-prefix-row c = row-short _ _ _ (c .before .pre)
 
--- src/lib.rt:90:43
-sub-write-row-2 : tie.Need-sub-write-row-2
-sub-write-row-2 c = search needs
+slice-aggregate-write-row-2 : tie.Need-slice-aggregate-write-row-2
+slice-aggregate-write-row-2 c = sym (length-take-le (c .before .before .args .n) _ (row-short _ _ _ (c .before .before .pre)))
 
--- src/lib.rt:90:43
-part-row-start : tie.Need-part-row-start
-part-row-start c = search needs
-
--- src/lib.rt:90:43
-part-row-end : tie.Need-part-row-end
-part-row-end c = search needs
-
--- src/lib.rt:90:5
 write-row-requires : tie.Need-write-row-requires
-write-row-requires c κs = search needs
+write-row-requires c κs =
+    writable _ _ _ (c .before .before .pre) _ (length-take-le (c .before .before .args .n) _ (row-short _ _ _ (c .before .before .pre)))
 
--- src/lib.rt:84:1
 returns : tie.Need-returns
-returns c = search needs
+returns c = sent-front _ _ _ (c .before .before .before .before .pre) _ _ refl (c .before .write-row .ensures)
 
 pub row-of-spec : {M : Type 1} → statement M
 row-of-spec =
     tie.close
     (tie.spec
-    sub-write-row
-    part-write-row-start
-    part-write-row-end
-    sub-write-row-2
-    part-row-start
-    part-row-end
+    array-share-prefix-message
+    slice-aggregate-write-row
+    array-borrow-prefix-row
+    slice-aggregate-write-row-2
     write-row-requires
     returns)

@@ -16,7 +16,7 @@ abbrev μ-loop : tie.MeasureT-loop
 μ-loop q c₀ c = c
 
 loop-holds : tie.Need-loop-holds Inv-loop μ-loop
-loop-holds c = (search needs, deg-length _ (c .before .args .q .now) (omega arith))
+loop-holds c = (search needs, deg-length _ (c .args .q .now) (omega arith))
 
 sub-if1 : tie.Need-sub-if1 Inv-loop μ-loop
 sub-if1 c = search needs
