@@ -1,30 +1,38 @@
 -- The ways out of the checks, of the search and of the call.
 use Prim.Native.Nat.{ℕ, _*_, _^_, _<_, _≤_}
 use mathlib.Core.Path.{_≡_, refl, ap, sym, subst, _∙_}
-use mathlib.Core.List.{List, _++_}
+use mathlib.Core.List.{List, _++_, append-nil}
 use native.Mathlib.Decide.{decLt}
 use native.Mathlib.Omega.{arith}
-use lib.ListN.{length, getD, take, drop, length-take, length-drop, length-append, List·getD-eq-default}
+use lib.ListN.{length, getD, take, drop, length-take, length-drop, length-append, drop-of-length-le, List·getD-eq-default}
 use lib.Seq.{length-take-le, getD-take, take-at}
 use lib.Pow.{pow-pos}
 use borrow.Author.Tests.{eq-eqb, ne-eqb}
-use Rattle.defs.specs.Distance.{damage, depths, distance}
+use Rattle.defs.specs.Place.{Symbols}
+use Rattle.defs.specs.Distance.{damage, depths, distance, Near}
 use Rattle.defs.specs.Row.{Message, rowOf}
-use Rattle.defs.specs.Refusal.{refuse}
-use Rattle.defs.specs.Limits.{longest}
+use Rattle.defs.specs.Refusal.{refuse, andThen}
+use Rattle.defs.specs.Limits.{longest, codeVerdict, Inside}
 use Rattle.defs.specs.Encode.{symbolsVerdict}
-use Rattle.defs.specs.declared.Refusal.the-variants.{Length}
+use Rattle.defs.specs.Write.{front}
+use Rattle.defs.specs.Decode.{decodeVerdict, Decoded, refused, found, none}
+use Rattle.defs.specs.declared.Refusal.{Refusal}
+use Rattle.defs.specs.declared.Refusal.the-variants.{Length, TooFar}
 use Rattle.defs.specs.declared.Verdict.{Verdict}
-use Rattle.defs.specs.declared.Verdict.the-variants.{Refused}
+use Rattle.defs.specs.declared.Verdict.the-variants.{Fine, Refused}
+use Rattle.defs.specs.declared.Answer.the-variants.{Done, Refused as No}
 use Rattle.theory.specs.Fill.{filled}
 use Rattle.theory.proofs.Fill.{filled-whole}
 use Rattle.defs.specs.declared.Code.{Code}
 use Rattle.theory.specs.Limits.{Limits}
 use Rattle.theory.proofs.Limits.{inside-known}
+use Rattle.theory.proofs.Checks.{decode-known}
 use Rattle.theory.proofs.Row.{length-row}
 use Rattle.code.specs.Checked.{pointsOf}
+use Rattle.code.proofs.Outcome.{Passed}
 use Rattle.rows.specs.Chunk.{Writable}
-use Rattle.decode.specs.Search.{restVerdict, Candidate, Sent, Measured}
+use Rattle.decode.specs.declared.Sought.{Sought}
+use Rattle.decode.specs.Search.{restVerdict, Candidate, Sent, IsSought, within, beyond, Measured}
 
 module _ (m n k count : ℕ) (w : List ℕ) (size deep : ℕ) where
   pub rest-row : (length w ≡ n → ⊥) → Refused Length ≡ restVerdict m n k count w size deep
@@ -90,3 +98,55 @@ module _ (c : Code) (f : List ℕ) (n : ℕ) (x : Candidate c f n) where
         long = length-append new (drop n old) ∙ omega (arith, length-drop n old, row-short);
         row = take-at new (drop n old) n size ∙ h;
       }
+
+-- a buffer filled whole
+front-whole : (new old : List ℕ) → length new ≡ length old → front new old ≡ new
+unfolding front
+front-whole new old e = rw (drop-of-length-le old {i = length new} (omega arith)) (append-nil new)
+
+-- the ways out of the call
+module _ (m r k : ℕ) (points w message depth : List ℕ) where
+  pub code-refused : (x : Refusal) → codeVerdict m r k points ≡ Refused x → Decoded m r k points w message depth (No x) message depth
+  unfolding decodeVerdict andThen
+  code-refused x e = refused x (rw e) refl refl refl
+
+  module _ (v : Inside m r k points) where
+    rest-is : decodeVerdict m r k points w (length message) (length depth)
+        ≡ restVerdict m (r * length points) k (length points) w (length message) (length depth)
+    unfolding decodeVerdict andThen restVerdict
+    rest-is = rw v
+
+    pub rest-refused : (x : Refusal) → restVerdict m (r * length points) k (length points) w (length message) (length depth) ≡ Refused x
+        → Decoded m r k points w message depth (No x) message depth
+    rest-refused x e = refused x (rest-is ∙ e) refl refl refl
+
+    module _ (fine : restVerdict m (r * length points) k (length points) w (length message) (length depth) ≡ Fine) where
+      pub facts : Inside m r k points × (length w ≡ r * length points) × (length message ≡ k) × (length depth ≡ length points) × Symbols m w
+      facts = decode-known m r k points w (length message) (length depth) (rest-is ∙ fine)
+
+      module _ (c : Code) (p : Passed m r k points c) (s : Sought) where
+        near-is : (f : List ℕ) → Near (c .m) (c .r) (c .k) (pointsOf c) w f → Near m r k points w f
+        near-is f near = rw (p .m-is, p .r-is, p .k-is, p .points-are) at near
+
+        near-back : (f : List ℕ) → Near m r k points w f → Near (c .m) (c .r) (c .k) (pointsOf c) w f
+        near-back f near = rw (p .m-is, p .r-is, p .k-is, p .points-are) near
+
+        pub nothing-near : (x : Refusal) → s .verdict ≡ Refused x → IsSought c w s → Decoded m r k points w message depth (No x) message depth
+        nothing-near x e (within e′ l sent near) = absurd (let z : _≡_ {A = ℕ} 0 1 = cc in omega arith)
+        nothing-near x e (beyond e′ far) =
+            none (rest-is ∙ fine) (λ f near. far f (near-back f near)) (let h : x ≡ TooFar = cc in ap No h) refl refl
+
+        pub decoded : s .verdict ≡ Fine → IsSought c w s → (message′ : List ℕ) → message′ ≡ front (take k (s .message)) message
+            → (t : ℕ) (depth′ : List ℕ) → Measured r (take (r * length points) (s .row)) w depth t depth′
+            → Decoded m r k points w message depth (Done t) message′ depth′
+        decoded e (beyond e′ far) message′ h t depth′ x = absurd (let z : _≡_ {A = ℕ} 0 1 = cc in omega arith)
+        decoded e (within e′ long sent near) message′ h t depth′ x =
+            let f : List ℕ = take k (s .message) in
+            let same : take (c .k) (s .message) ≡ f = ap (λ (i : ℕ). take i (s .message)) (p .k-is) in
+            let near′ : Near m r k points w f = rw same at (near-is _ near) in
+            let row : take (r * length points) (s .row) ≡ rowOf m r points f =
+            ap (λ (i : ℕ). take i (s .row)) (sym (facts .1)) ∙ (rw (p .m-is, p .r-is, p .k-is, p .points-are) at (sent .row)) in
+            found f (rest-is ∙ fine) near′
+            (ap Done (x .all ∙ rw (facts .3, row)))
+            (h ∙ front-whole f message (near′ .message .size ∙ sym (facts .2)))
+            (x .each ∙ rw (facts .3, row))

@@ -40,9 +40,9 @@ pub record Sent (c : Code) (f : List ℕ) (n : ℕ) (u : List ℕ) : Type 0 wher
 
 -- a message near to w, with its row; or none is near
 pub data IsSought (c : Code) (w : List ℕ) (s : Sought) : Type 0 where
-  found : s .verdict ≡ Fine → length (s .message) ≡ longest → Sent c (s .message) (length w) (s .row)
+  within : s .verdict ≡ Fine → length (s .message) ≡ longest → Sent c (s .message) (length w) (s .row)
       → Near (c .m) (c .r) (c .k) (pointsOf c) w (take (c .k) (s .message)) → IsSought c w s
-  none : s .verdict ≡ Refused TooFar → ((f : List ℕ) → Near (c .m) (c .r) (c .k) (pointsOf c) w f → ⊥) → IsSought c w s
+  beyond : s .verdict ≡ Refused TooFar → ((f : List ℕ) → Near (c .m) (c .r) (c .k) (pointsOf c) w f → ⊥) → IsSought c w s
 
 -- the depths of damage, and their sum
 pub record Measured (r : ℕ) (u w depth : List ℕ) (t : ℕ) (depth′ : List ℕ) : Type 0 where

@@ -1,0 +1,95 @@
+-- The ways out of the search for a message.
+use Prim.Native.Nat.{ℕ, suc, _+_, _*_, _/_, _<_, _≤_}
+use mathlib.Core.Path.{_≡_, refl, ap, sym, _∙_}
+use mathlib.Core.List.{List}
+use native.Mathlib.Omega.{arith}
+use lib.ListN.{length, getD, take}
+use lib.Seq.{ext-getD, getD-take}
+use Rattle.defs.specs.Row.{Message, rowOf}
+use Rattle.defs.specs.Distance.{distance, radius, reach, Near}
+use Rattle.defs.specs.Pair.{IsPair}
+use Rattle.defs.specs.Limits.{longest}
+use Rattle.defs.specs.declared.Refusal.the-variants.{TooFar}
+use Rattle.defs.specs.declared.Verdict.the-variants.{Fine, Refused}
+use Rattle.defs.specs.declared.Code.{Code}
+use Rattle.theory.specs.Limits.{Limits}
+use Rattle.theory.proofs.Limits.{inside-known}
+use Rattle.theory.proofs.Pair.{pair-exists, pair-divides, pair-nonzero}
+use Rattle.code.specs.Checked.{pointsOf, IsCode}
+use Rattle.decode.specs.Quotient.{Dividing, Quotient}
+use Rattle.decode.specs.Search.{Candidate, Sent, IsSought, within, beyond}
+use Rattle.decode.specs.declared.Sought.{Sought}
+use Rattle.decode.proofs.Outcome.{front-message}
+
+module _ (c : Code) (is : IsCode c) (w : List ℕ) (size : length w ≡ c .r * c .count) where
+  abbrev points : List ℕ
+  points = pointsOf c
+
+  limits : Limits (c .m) (c .r) (c .k) points
+  limits = inside-known _ _ _ _ (is .inside)
+
+  abbrev Pair : List ℕ → List ℕ → Type 0
+  Pair = IsPair (c .m) (c .r) (c .k) points w
+
+  long : length w ≡ c .r * length points
+  long = size ∙ ap (λ (i : ℕ). c .r * i) (sym (is .counted))
+
+  pub k-within : c .k ≤ length w
+  k-within = omega (arith, long, limits .numbers .k-top)
+
+  pub n-within : length w ≤ longest
+  n-within = omega (arith, long, limits .numbers .row-top)
+
+  -- no pair, and so no message
+  pub no-pair : (s : Sought) → s .verdict ≡ Refused TooFar → ((Q₀ Q₁ : List ℕ) → Pair Q₀ Q₁ → ⊥) → IsSought c w s
+  no-pair s e empty = beyond e (λ f near. let (Q₀, Q₁, p) = pair-exists _ _ _ points w (is .inside) f near in empty Q₀ Q₁ p)
+
+  module _ (Q₀ Q₁ : List ℕ) (p : Pair Q₀ Q₁) where
+    pub dividing : Dividing (c .m) (c .k) Q₀ Q₁
+    unfolding radius
+    dividing =
+        record {
+          width = limits .numbers .width;
+          symbols₀ = p .symbols₀;
+          symbols₁ = p .symbols₁;
+          long = omega (arith, p .size₀, limits .numbers .k-top, limits .numbers .row-top);
+          room = omega (arith, p .size₀, p .size₁, limits .numbers .k-top);
+        }
+
+    module _ (f : List ℕ) (q : Quotient (c .m) (c .k) Q₀ Q₁ f) where
+      pub candidate : Candidate c f (length w)
+      candidate = record { code = is; long = q .long; symbols = q .symbols; size = size }
+
+      abbrev g : List ℕ
+      g = take (c .k) f
+
+      -- a message that is near is the quotient
+      the-quotient : (h : List ℕ) → Near (c .m) (c .r) (c .k) points w h → g ≡ h
+      the-quotient h near =
+          let m-is : Message (c .m) (c .k) g = front-message c f (length w) candidate in
+          ext-getD 0 g h (m-is .size ∙ sym (near .message .size))
+          (λ i l. getD-take (c .k) f i 0 (omega (arith, m-is .size))
+          ∙ q .exact h (near .message) (pair-nonzero _ _ _ points w (is .inside) Q₀ Q₁ p)
+          (pair-divides _ _ _ points w (is .inside) h near Q₀ Q₁ p) i (omega (arith, m-is .size)))
+
+      module _ (u : List ℕ) (sent : Sent c f (length w) u) (d : ℕ) (h : d ≡ distance (c .r) (c .count) (take (length w) u) w) where
+        measured : d ≡ distance (c .r) (length points) (rowOf (c .m) (c .r) points g) w
+        measured =
+            h ∙ ap (λ (s : List ℕ). distance (c .r) (c .count) s w) (sent .row)
+            ∙ ap (λ (i : ℕ). distance (c .r) i (rowOf (c .m) (c .r) points g) w) (sym (is .counted))
+
+        reach-is : (t : ℕ) → t ≡ radius (length w) (c .k) → t ≡ reach (c .r) (c .k) points
+        reach-is t e = e ∙ ap (λ (n : ℕ). radius n (c .k)) long
+
+        pub too-far : (t : ℕ) → t ≡ radius (length w) (c .k) → t < d → (s : Sought) → s .verdict ≡ Refused TooFar → IsSought c w s
+        too-far t e l s v =
+            beyond v
+            (λ f′ near.
+            let same : d ≡ distance (c .r) (length points) (rowOf (c .m) (c .r) points f′) w =
+            measured ∙ ap (λ (s : List ℕ). distance (c .r) (length points) (rowOf (c .m) (c .r) points s) w) (the-quotient f′ near) in
+            omega (arith, near .within, reach-is t e))
+
+        pub near-enough : (t : ℕ) → t ≡ radius (length w) (c .k) → d ≤ t → IsSought c w (record { verdict = Fine; message = f; row = u })
+        near-enough t e l =
+            within refl (q .long) sent
+            (record { message = front-message c f (length w) candidate; within = omega (arith, measured, reach-is t e) })
