@@ -1,0 +1,2 @@
+-- The laws behind the equations.
+pub mod Expand
