@@ -14,3 +14,5 @@ pub mod Product
 pub mod Count
 pub mod Agree
 pub mod Chunks
+pub mod Differ
+pub mod Equation
