@@ -15,7 +15,7 @@ use Rattle.theory.specs.Poly.{h}
 use Rattle.theory.proofs.Field.{sums, ring, add-assoc, 0-add, 0-mul, mul-assoc, mul-comm, one-mul-of-lt}
 use Rattle.theory.proofs.Sum.{sum-suc, sum-ext, sum-add, sum-zero, sum-scale}
 use Rattle.theory.proofs.Formula.{coefficient-h}
-use Rattle.pair.specs.Equation.{powerAt, mixedAt, Equation}
+use Rattle.pair.specs.Equation.{deeper, powerAt, mixedAt, Equation}
 
 -- the sum over n + k terms, split
 sum-split : (n k : ℕ) (F : ℕ → ℕ) → sum (n + k) F ≡ add (sum n F) (sum k (λ i. F (n + i)))
@@ -37,8 +37,8 @@ module _ (m P : ℕ) where
   no-term c x = simp ring
 
   -- the coefficient j is linear in the coefficients of f
-  expand-h : (j : ℕ) (f : List ℕ) → Symbols m f → h m P j f ≡ sum (length f) (λ a. mul m (powerAt m P j a) (getD f a 0))
-  unfolding h powerAt sum
+  expand-h : (j : ℕ) (f : List ℕ) → Symbols m f → h m P j f ≡ sum (length f) (λ a. mul m (powerAt (mul m P) j a) (getD f a 0))
+  unfolding h powerAt deeper sum
   expand-h j [] o = refl
   expand-h zero (c ∷ f) o =
       ap₂ add (sym (one-mul-of-lt m c (o 0)))
@@ -51,7 +51,7 @@ module _ (m P : ℕ) where
       ∙ sum-ext (length f) _ _ (λ a l. pascal-term _ _ _)
       ∙ no-term c _
 
-  pub expand : (j : ℕ) (f : List ℕ) → Symbols m f → coefficient m f P j ≡ sum (length f) (λ a. mul m (powerAt m P j a) (getD f a 0))
+  pub expand : (j : ℕ) (f : List ℕ) → Symbols m f → coefficient m f P j ≡ sum (length f) (λ a. mul m (powerAt (mul m P) j a) (getD f a 0))
   expand j f o = coefficient-h m P j f o ∙ expand-h j f o
 
   -- so is that of w · f
@@ -60,17 +60,17 @@ module _ (m P : ℕ) where
   unfolding mixedAt
   expand-mixed w r j l f o =
       sum-ext (suc j) _ _ (λ c k. ap (mul m (w c)) (expand (j - c) f o) ∙ sym (sum-scale m (length f) (w c) _))
-      ∙ sum-exchange (suc j) (length f) (λ c a. mul m (w c) (mul m (powerAt m P (j - c) a) (getD f a 0)))
+      ∙ sum-exchange (suc j) (length f) (λ c a. mul m (w c) (mul m (powerAt (mul m P) (j - c) a) (getD f a 0)))
       ∙ sum-ext (length f) _ _ (λ a k. gather a)
     where
-      gather : (a : ℕ) → sum (suc j) (λ c. mul m (w c) (mul m (powerAt m P (j - c) a) (getD f a 0)))
-          ≡ mul m (sum (min r (suc j)) (λ c. mul m (w c) (powerAt m P (j - c) a))) (getD f a 0)
+      gather : (a : ℕ) → sum (suc j) (λ c. mul m (w c) (mul m (powerAt (mul m P) (j - c) a) (getD f a 0)))
+          ≡ mul m (sum (min r (suc j)) (λ c. mul m (w c) (powerAt (mul m P) (j - c) a))) (getD f a 0)
       gather a =
           let e : suc j ≡ min r (suc j) = omega arith in
           sum-ext (suc j) _ _ (λ c k. sym (mul-assoc m (w c) _ _) ∙ mul-comm m _ (getD f a 0))
-          ∙ sum-scale m (suc j) (getD f a 0) (λ c. mul m (w c) (powerAt m P (j - c) a))
+          ∙ sum-scale m (suc j) (getD f a 0) (λ c. mul m (w c) (powerAt (mul m P) (j - c) a))
           ∙ mul-comm m (getD f a 0) _
-          ∙ ap (λ (n : ℕ). mul m (sum n (λ c. mul m (w c) (powerAt m P (j - c) a))) (getD f a 0)) e
+          ∙ ap (λ (n : ℕ). mul m (sum n (λ c. mul m (w c) (powerAt (mul m P) (j - c) a))) (getD f a 0)) e
 
 -- x has the coefficients of Q₀ and then those of Q₁
 pub record Joined (x : ℕ → ℕ) (Q₀ Q₁ : List ℕ) : Type 0 where

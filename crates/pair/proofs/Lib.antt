@@ -1,2 +1,3 @@
 -- The laws behind the equations.
 pub mod Expand
+pub mod Spans

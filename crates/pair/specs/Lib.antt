@@ -1,2 +1,4 @@
--- What finding a pair answers, and the equations that it fills.
+-- What finding a pair asks and answers, and the equations behind it.
+pub mod Found
 pub mod Equation
+pub mod Fill
