@@ -120,7 +120,7 @@ fn add_products(t: &mut [u8; TABLE], products: &[u8; 256], to: usize, from: usiz
 // Adds x times n entries in each of d rows to n entries after them in each of d rows.
 fn add_multiple(t: &mut [u8; TABLE], m: usize, x: u8, to: usize, from: usize, d: usize, n: usize)
     requires { ⌜ Shape m (now t) ⌝ }
-    requires { ⌜ (x < 2 ^ m) × (from + n ≤ to) × (to + d * stride + n ≤ tableSize + stride) ⌝ }
+    requires { ⌜ (x < 2 ^ m) × (n ≤ stride) × (from + n ≤ to) × (to + d * stride + n ≤ tableSize + stride) ⌝ }
     requires { ⌜ ((j i a b : ℕ) → a < n → b < n → from + j * stride + a ≡ to + i * stride + b → ⊥) ⌝ }
     ensures { λ _. ⌜ Added m x to from d n (now (t .entry)) (now (t .exit)) ⌝ }
 {
