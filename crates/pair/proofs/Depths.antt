@@ -10,11 +10,12 @@ use lib.ListN.{length, getD}
 use lib.Pow.{pow-pos}
 use Rattle.defs.specs.Field.{Width, add, mul}
 use Rattle.theory.proofs.Field.{add-lt, mul-lt}
+use Rattle.theory.proofs.Generator.{one-lt}
 use Rattle.field.specs.Arithmetic.{Products}
 use Rattle.solve.specs.Table.{stride, Shape}
 use Rattle.solve.proofs.Sums.{eq-or-not}
 use Rattle.solve.proofs.Free.{eq-lt}
-use Rattle.solve.proofs.Writes.{byte, one-lt}
+use Rattle.solve.proofs.Writes.{byte}
 use Rattle.pair.specs.Equation.{deeper, powerAt}
 use Rattle.pair.specs.Fill.{look, Bytes, Span, Powers}
 use Rattle.pair.proofs.Spans.{span-symbols}
@@ -73,7 +74,7 @@ module _ {m P to n : ℕ} {row : List ℕ} (R : Products m P row) where
   }
     where
       one : 1 < 2 ^ m
-      one = one-lt (H .width)
+      one = one-lt m (H .width)
 
   pub powers-more : {t₀ t t′ : List ℕ} (d : ℕ) → 0 < d → n ≤ stride → Powers m P to d n t₀ t
       → Span t (to + d * stride) n (deeper (look row) (λ a. getD t (to + d * stride - stride + a) 0)) t′ → Powers m P to (d + 1) n t₀ t′
@@ -88,7 +89,7 @@ module _ {m P to n : ℕ} {row : List ℕ} (R : Products m P row) where
   }
     where
       one : 1 < 2 ^ m
-      one = one-lt (W .shape .width)
+      one = one-lt m (W .shape .width)
 
       next : (a : ℕ) → a < n → deeper (look row) (λ b. getD t (to + d * stride - stride + b) 0) a ≡ powerAt (mul m P) d a
       next a l =

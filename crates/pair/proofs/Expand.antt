@@ -18,7 +18,7 @@ use Rattle.theory.proofs.Formula.{coefficient-h}
 use Rattle.pair.specs.Equation.{deeper, powerAt, mixedAt, Equation}
 
 -- the sum over n + k terms, split
-sum-split : (n k : ℕ) (F : ℕ → ℕ) → sum (n + k) F ≡ add (sum n F) (sum k (λ i. F (n + i)))
+pub sum-split : (n k : ℕ) (F : ℕ → ℕ) → sum (n + k) F ≡ add (sum n F) (sum k (λ i. F (n + i)))
 unfolding sum
 sum-split zero k F = simp (zero-add, 0-add)
 sum-split (suc n) k F = simp suc-add (ap (add (F 0)) (sum-split n k (λ i. F (suc i))) ∙ sym (add-assoc _ _ _))

@@ -3,3 +3,4 @@ pub mod Expand
 pub mod Spans
 pub mod Depths
 pub mod Multiples
+pub mod Chunks

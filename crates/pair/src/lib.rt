@@ -10,14 +10,12 @@ use solve::TABLE;
 ghost use mathlib.Core.Path.{_≡_};
 ghost use Prim.Native.Nat.{ℕ, suc, _+_, _*_, _^_, _<_, _≤_};
 ghost use lib.ListN.{length, getD, take};
-ghost use Rattle.defs.specs.Field.{Width, add};
+ghost use Rattle.defs.specs.Field.{add};
 ghost use Rattle.defs.specs.Place.{tab, Symbols};
 ghost use Rattle.defs.specs.Limits.{longest};
-ghost use Rattle.field.specs.Arithmetic.{Products};
 ghost use Rattle.code.specs.Checked.{pointsOf, IsCode};
 ghost use Rattle.solve.specs.Table.{stride, tableSize, at, Shape};
 ghost use Rattle.solve.specs.System.{free};
-ghost use Rattle.solve.specs.Answer.{Answers};
 ghost use Rattle.pair.specs.Equation.{deeper, powerAt};
 ghost use Rattle.pair.specs.Fill.{look, Bytes, Span, Powers, Added, Chunk, System};
 ghost use Rattle.pair.specs.Found.{IsRow, Found};
@@ -28,32 +26,6 @@ pub struct Paired {
     pub q0: [u8; LONGEST],
     pub q1: [u8; LONGEST],
 }
-
-// STUBS
-fn product_row(m: usize, c: u8) -> [u8; 256]
-    requires { ⌜ Width m ⌝ }
-    requires { ⌜ c < 2 ^ m ⌝ }
-    ensures { λ r. ⌜ Products m c r ⌝ }
-{
-    [0u8; 256]
-}
-
-fn eliminate(t: &mut [u8; TABLE], m: usize, rows: usize, cols: usize) -> Solved
-    requires { ⌜ Shape m (now t) ⌝ }
-    requires { ⌜ (rows ≤ longest) × (cols ≤ stride) ⌝ }
-    ensures { λ _. ⌜ Shape m (now (t .exit)) ⌝ }
-    ensures { λ s. ⌜ Answers m rows cols (at (now (t .entry))) (at (now (t .exit))) s ⌝ }
-{
-    Solved::Full
-}
-
-fn unknown(t: &[u8; TABLE], c: usize, j: usize) -> u8
-    requires { ⌜ (length (now t) ≡ tableSize) × (c < stride) ⌝ }
-    ensures { λ x. ⌜ x ≡ free (at (now (t .entry))) c j ⌝ }
-{
-    0
-}
-// END OF STUBS
 
 // Writes 1 and the powers of a point, whose multiples are given: what depth 0 asks of n unknowns.
 fn write_powers(t: &mut [u8; TABLE], products: &[u8; 256], to: usize, n: usize)
@@ -92,7 +64,7 @@ fn write_depths(t: &mut [u8; TABLE], m: usize, point: u8, to: usize, r: usize, n
     requires { ⌜ (point < 2 ^ m) × (0 < r) × (to + r * stride ≤ tableSize) × (n ≤ stride) ⌝ }
     ensures { λ _. ⌜ Powers m point to r n (now (t .entry)) (now (t .exit)) ⌝ }
 {
-    let products = product_row(m, point);
+    let products = field::product_row(m, point);
     write_powers(t, &products, to, n);
     let mut j = 1;
     while j < r {
@@ -124,7 +96,7 @@ fn add_multiple(t: &mut [u8; TABLE], m: usize, x: u8, to: usize, from: usize, d:
     requires { ⌜ ((j i a b : ℕ) → a < n → b < n → from + j * stride + a ≡ to + i * stride + b → ⊥) ⌝ }
     ensures { λ _. ⌜ Added m x to from d n (now (t .entry)) (now (t .exit)) ⌝ }
 {
-    let products = product_row(m, x);
+    let products = field::product_row(m, x);
     let mut j = 0;
     while j < d {
         let at = j * STRIDE;
@@ -180,7 +152,7 @@ fn unknowns(t: &[u8; TABLE], c: usize, first: usize, n: usize) -> [u8; LONGEST]
     let mut q = [0u8; LONGEST];
     let mut a = 0;
     while a < n {
-        q[a] = unknown(t, c, first + a);
+        q[a] = solve::unknown(t, c, first + a);
         a += 1;
     }
     q
@@ -199,7 +171,7 @@ pub fn find_pair(code: Code, row: &[u8]) -> Paired
     let s1 = (n - k) / 2 + 1;
     let mut table = [0u8; TABLE];
     write_system(&mut table, code, row, s0, s1);
-    let Solved::Free(c) = eliminate(&mut table, m, n, s0 + s1) else {
+    let Solved::Free(c) = solve::eliminate(&mut table, m, n, s0 + s1) else {
         return Paired {
             verdict: Verdict::Refused(Refusal::TooFar),
             q0: [0u8; LONGEST],

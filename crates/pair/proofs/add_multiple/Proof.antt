@@ -9,7 +9,7 @@ use Rattle.pair.proofs.add_multiple.Tie as tie
 use Rattle.pair.proofs.add_multiple.Reads as reads
 use Rattle.pair.proofs.add_multiple.Lts as lts
 use Rattle.pair.proofs.add_products.Reads as add-products-reads
-use Rattle.pair.proofs.product_row.Reads as product-row-reads
+use Rattle.field.proofs.product_row.Reads as product-row-reads
 
 abbrev Inv-loop : tie.InvT-loop
 Inv-loop t₀ m x to from d n products j₀ t j = (j ≤ d) × Added m x to from j n t₀ t

@@ -11,7 +11,7 @@ use Rattle.pair.proofs.write_depths.Statement.{statement}
 use Rattle.pair.proofs.write_depths.Tie as tie
 use Rattle.pair.proofs.write_depths.Reads as reads
 use Rattle.pair.proofs.write_depths.Lts as lts
-use Rattle.pair.proofs.product_row.Reads as product-row-reads
+use Rattle.field.proofs.product_row.Reads as product-row-reads
 use Rattle.pair.proofs.write_deeper.Reads as write-deeper-reads
 use Rattle.pair.proofs.write_powers.Reads as write-powers-reads
 
