@@ -4,3 +4,4 @@ pub mod Spans
 pub mod Depths
 pub mod Multiples
 pub mod Chunks
+pub mod Systems
