@@ -5,3 +5,4 @@ pub mod Depths
 pub mod Multiples
 pub mod Chunks
 pub mod Systems
+pub mod Outcome

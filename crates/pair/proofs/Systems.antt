@@ -6,7 +6,7 @@ use mathlib.Core.Logic.{⊎-elim}
 use mathlib.Core.List.{List}
 use native.Mathlib.Nat.{le-antisymm, suc-mul, add-mul, mul-comm, mul-le-mul-right}
 use native.Mathlib.Omega.{arith}
-use lib.ListN.{length, getD, take, drop, length-take, length-drop, List·getD-eq-default}
+use lib.ListN.{length, getD, take, drop, length-take, length-drop, replicate, length-replicate, getD-replicate, List·getD-eq-default}
 use lib.Seq.{getD-take, getD-drop}
 use lib.Pow.{pow-pos}
 use Rattle.defs.specs.Field.{Width}
@@ -33,6 +33,13 @@ pub code-point : {c : Code} → IsCode c → (i : ℕ) → i < c .count → getD
 code-point {c} C i l = sym (getD-take (c .count) (c .points) i 0 l)
 
 -- a table of zeros
+pub getD-zeros : (n k : ℕ) → getD (replicate {A = ℕ} n 0) k 0 ≡ 0
+getD-zeros n k =
+    ⊎-elim
+    (λ l. getD-replicate n k 0 0 l)
+    (λ (l : n ≤ k). List·getD-eq-default (replicate {A = ℕ} n 0) 0 (omega (arith, length-replicate {A = ℕ} n 0)))
+    (lt-or-le k n)
+
 pub zero-shape : {m : ℕ} (t : List ℕ) → Width m → length t ≡ tableSize → ((k : ℕ) → getD t k 0 ≡ 0) → Shape m t
 zero-shape {m} t w n z = record { width = w; size = n; symbols = λ k. eq-lt (z k) (pow-pos m) }
 
