@@ -4,8 +4,10 @@ ghost use Prim.Native.Nat.{_≤_};
 ghost use lib.ListN.{length};
 ghost use Rattle.defs.specs.Field.{Width};
 ghost use Rattle.defs.specs.Distance.{radius};
+ghost use Rattle.defs.specs.Decode.{Decoded};
 ghost use Rattle.code.specs.Checked.{IsCode};
 ghost use Rattle.rows.specs.Chunk.{Rows};
+ghost use Rattle.pair.specs.Found.{IsRow};
 ghost use Rattle.decode.specs.Quotient.{Terms, Fits, TakenOff, Divisible, Divided, Dividing, Quotient};
 ghost use Rattle.decode.specs.Search.{restVerdict, Candidate, Sent, IsSought, Measured};
 
@@ -110,6 +112,37 @@ fn nothing(v: Verdict) -> Sought
     }
 }
 
+// Looks for the message near to a row: the quotient of a pair, measured.
+fn seek(code: Code, row: &[u8]) -> Sought
+    requires { ⌜ IsCode code ⌝ }
+    requires { ⌜ IsRow code (now row) ⌝ }
+    ensures { λ s. ⌜ IsSought code (now (row .entry)) s ⌝ }
+{
+    let n = row.len();
+    let k = code.k;
+    let reach = radius(n, k);
+    let paired = pair::find_pair(code, row);
+    let v = paired.verdict;
+    if let Verdict::Refused(_) = v {
+        return nothing(Verdict::Refused(Refusal::TooFar));
+    }
+    let q0 = paired.q0;
+    let q1 = paired.q1;
+    let half = (n + k) / 2;
+    let size = reach + 1;
+    let message = quotient(code.m, k, &q0[..half], &q1[..size]);
+    let sent = row_of(code, message, n);
+    let d = rows::row_distance(code.r, code.count, &sent[..n], row);
+    if reach < d {
+        return nothing(Verdict::Refused(Refusal::TooFar));
+    }
+    Sought {
+        verdict: Verdict::Fine,
+        message,
+        row: sent,
+    }
+}
+
 // Writes the depth of damage in each chunk, and answers their sum.
 fn write_depths(r: usize, sent: &[u8], row: &[u8], depths: &mut [u8]) -> usize
     requires { ⌜ Rows r (length (now depths)) (now sent) (now row) ⌝ }
@@ -143,3 +176,28 @@ fn check_rest(m: usize, n: usize, k: usize, count: usize, row: &[u8], size: usiz
     code::check_symbols(m, row)
 }
 
+// Decodes a row to the message near to it, or refuses and leaves both buffers as they were.
+pub fn decode(m: usize, r: usize, k: usize, points: &[u8], row: &[u8], message: &mut [u8], depths: &mut [u8]) -> Answer
+    ensures { λ a. ⌜ Decoded m r k (now (points .entry)) (now (row .entry)) (now (message .entry)) (now (depths .entry)) a (now (message .exit)) (now (depths .exit)) ⌝ }
+{
+    let checked = code::check_code(m, r, k, points);
+    let v = checked.verdict;
+    if let Verdict::Refused(x) = v {
+        return Answer::Refused(x);
+    }
+    let n = r * points.len();
+    let rest = check_rest(m, n, k, points.len(), row, message.len(), depths.len());
+    if let Verdict::Refused(x) = rest {
+        return Answer::Refused(x);
+    }
+    let code = checked.code;
+    let sought = seek(code, row);
+    let s = sought.verdict;
+    if let Verdict::Refused(x) = s {
+        return Answer::Refused(x);
+    }
+    let found = sought.message;
+    let sent = sought.row;
+    code::copy(&found[..k], message);
+    Answer::Done(write_depths(r, &sent[..n], row, depths))
+}
