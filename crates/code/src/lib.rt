@@ -1,9 +1,6 @@
 // The check of a code: refusals 1 to 6 in their order, and the code as one value with its points inside it.
-mod answer;
 mod buffer;
 
-pub use answer::detail;
-pub use answer::number;
 pub use buffer::copy;
 ghost use mathlib.Core.Path.{_≡_};
 ghost use Prim.Native.Nat.{_^_, _≤_};

@@ -2,6 +2,7 @@
 use Prim.Native.Nat.{ℕ, _*_, _^_, _<_, _≤_}
 use mathlib.Core.Path.{_≡_, refl, ap, sym, subst, _∙_}
 use mathlib.Core.List.{List, _++_, append-nil}
+use native.Mathlib.Nat.{mul-comm}
 use native.Mathlib.Decide.{decLt}
 use native.Mathlib.Omega.{arith}
 use lib.ListN.{length, getD, take, drop, length-take, length-drop, length-append, drop-of-length-le, List·getD-eq-default}
@@ -25,12 +26,13 @@ use Rattle.theory.specs.Fill.{filled}
 use Rattle.theory.proofs.Fill.{filled-whole}
 use Rattle.defs.specs.declared.Code.{Code}
 use Rattle.theory.specs.Limits.{Limits}
-use Rattle.theory.proofs.Limits.{inside-known}
+use Rattle.theory.proofs.Limits.{inside-known, count-small}
 use Rattle.theory.proofs.Checks.{decode-known}
 use Rattle.theory.proofs.Row.{length-row}
 use Rattle.code.specs.Checked.{pointsOf}
 use Rattle.code.proofs.Outcome.{Passed}
-use Rattle.rows.specs.Chunk.{Writable}
+use Rattle.rows.specs.Chunk.{Rows, Writable}
+use Rattle.pair.specs.Found.{IsRow}
 use Rattle.decode.specs.declared.Sought.{Sought}
 use Rattle.decode.specs.Search.{restVerdict, Candidate, Sent, IsSought, within, beyond, Measured}
 
@@ -121,8 +123,24 @@ module _ (m r k : ℕ) (points w message depth : List ℕ) where
     rest-refused x e = refused x (rest-is ∙ e) refl refl refl
 
     module _ (fine : restVerdict m (r * length points) k (length points) w (length message) (length depth) ≡ Fine) where
-      pub facts : Inside m r k points × (length w ≡ r * length points) × (length message ≡ k) × (length depth ≡ length points) × Symbols m w
+      facts : Inside m r k points × (length w ≡ r * length points) × (length message ≡ k) × (length depth ≡ length points) × Symbols m w
       facts = decode-known m r k points w (length message) (length depth) (rest-is ∙ fine)
+
+      pub room : (length message ≡ k) × (length depth ≡ length points)
+      room = (facts .2, facts .3)
+
+      limits-in : Limits m r k points
+      limits-in = inside-known m r k points v
+
+      message-short-in : k ≤ longest
+      message-short-in = omega (arith, limits-in .numbers .k-top, limits-in .numbers .row-top)
+
+      pub is-row : (c : Code) → Passed m r k points c → IsRow c w
+      is-row c p =
+          record {
+            size = rw (p .r-is, ← p .is-code .counted, p .points-are) (facts .1);
+            symbols = rw (p .m-is) (facts .4);
+          }
 
       module _ (c : Code) (p : Passed m r k points c) (s : Sought) where
         near-is : (f : List ℕ) → Near (c .m) (c .r) (c .k) (pointsOf c) w f → Near m r k points w f
@@ -130,6 +148,26 @@ module _ (m r k : ℕ) (points w message depth : List ℕ) where
 
         near-back : (f : List ℕ) → Near m r k points w f → Near (c .m) (c .r) (c .k) (pointsOf c) w f
         near-back f near = rw (p .m-is, p .r-is, p .k-is, p .points-are) near
+
+        -- the message, and both rows, are as long as they must be
+        pub long-message : s .verdict ≡ Fine → IsSought c w s → k ≤ length (s .message)
+        long-message e (within e′ long sent near) =
+            omega (arith, long, message-short-in)
+        long-message e (beyond e′ far) = absurd (let z : _≡_ {A = ℕ} 0 1 = cc in omega arith)
+
+        pub long-row : s .verdict ≡ Fine → IsSought c w s → r * length points ≤ length (s .row)
+        long-row e (within e′ long sent near) = omega (arith, sent .long, limits-in .numbers .row-top)
+        long-row e (beyond e′ far) = absurd (let z : _≡_ {A = ℕ} 0 1 = cc in omega arith)
+
+        pub rows-measured : s .verdict ≡ Fine → IsSought c w s → Rows r (length depth) (take (r * length points) (s .row)) w
+        rows-measured e x =
+            let count : length depth * r ≡ r * length points = mul-comm (length depth) r ∙ ap (λ (i : ℕ). r * i) (facts .3) in
+            record {
+              depth = limits-in .numbers .r-top;
+              few = omega (arith, count-small (limits-in .numbers), facts .3);
+              left = omega (arith, length-take-le (r * length points) (s .row) (long-row e x));
+              right = omega (arith, facts .1);
+            }
 
         pub nothing-near : (x : Refusal) → s .verdict ≡ Refused x → IsSought c w s → Decoded m r k points w message depth (No x) message depth
         nothing-near x e (within e′ l sent near) = absurd (let z : _≡_ {A = ℕ} 0 1 = cc in omega arith)
