@@ -1,18 +1,17 @@
--- Doubling an element without a table, and a row of products by doubling its filled part.
+-- The row of products of a scalar, by doubling the part that is filled.
 use mathlib.Core.Path.{_≡_, refl, sym, ap, ap₂, _∙_, subst}
-use mathlib.Core.Logic.{⊎-elim, inl, inr, _⊎_}
+use mathlib.Core.Logic.{inl, inr}
 use mathlib.Core.List.{List}
-use Prim.Native.Nat.{ℕ, zero, suc, _+_, _*_, _-_, _/_, _%_, _^_, _<_, _≤_}
-use native.Mathlib.Nat.{zero-mul, one-mul, div-eq-of-lt, div-eq-of-lt-le, mod-eq-of-lt, zero-add, pow-suc}
+use Prim.Native.Nat.{ℕ, zero, suc, _+_, _*_, _-_, _^_, _<_, _≤_}
+use native.Mathlib.Nat.{one-mul, pow-suc}
 use native.Mathlib.Numerals.{add-one}
 use native.Mathlib.Decide.{decLt}
 use native.Mathlib.Omega.{arith}
-use lib.Dec.{lit≤}
-use lib.Pow.{pow-pos, pow-mono, split}
+use lib.Pow.{pow-pos, pow-mono}
 use lib.Bits.{bitXor, xor-shifted}
 use lib.ListN.{length, getD, set, length-set, replicate}
 use lib.Seq.{getD-set-same, getD-set-other}
-use Rattle.defs.specs.Field.{Width, add, modulus, times2, mul}
+use Rattle.defs.specs.Field.{Width, add, times2, mul}
 use Rattle.theory.proofs.Field as F
 use Rattle.field.specs.Arithmetic.{Element, Products, Doubled}
 
@@ -24,41 +23,7 @@ width-le m (inr (inr e)) = omega arith
 pub size-le : (m : ℕ) → Width m → 2 ^ m ≤ 256
 size-le m w = pow-mono (width-le m w)
 
--- ---- times2
-
-pub twice-low : (m a : ℕ) → a * 2 < 2 ^ m → Element m (times2 m a) (a * 2)
-unfolding times2
-twice-low m a h = record {
-  is = sym (simp (div-eq-of-lt h, zero-mul, F.add-0, mod-eq-of-lt h));
-  small = h;
-}
-
--- the modulus has bit m, and no higher one
-top : (m : ℕ) → Width m → modulus m / 2 ^ m ≡ 1
-unfolding modulus
-top m (inl e) = rw e
-top m (inr (inl e)) = rw e
-top m (inr (inr e)) = rw e
-
-pub twice-high : (m a : ℕ) → Width m → a < 2 ^ m → 2 ^ m ≤ a * 2 → Element m (times2 m a) (add (a * 2) (modulus m))
-unfolding times2
-twice-high m a w h l =
-    record { is = e; small = rw e (F.times2-lt m a) }
-  where
-    one : a * 2 / 2 ^ m ≡ 1
-    one = div-eq-of-lt-le (2 ^ m) (omega arith) (omega arith)
-
-    none : add (a * 2) (modulus m) / 2 ^ m ≡ 0
-    none = F.add-div m (a * 2) (modulus m) ∙ ap₂ add one (top m w) ∙ F.add-self 1
-
-    low : add (a * 2) (modulus m) ≡ add (a * 2) (modulus m) % 2 ^ m
-    low = sym (split (add (a * 2) (modulus m)) m) ∙ ap (λ (x : ℕ). x * 2 ^ m + add (a * 2) (modulus m) % 2 ^ m) none ∙ omega arith
-
-    e : add (a * 2) (modulus m) ≡ times2 m a
-    e = low ∙ ap (λ (x : ℕ). add (a * 2) x % 2 ^ m) (sym (ap (λ (x : ℕ). x % 2 * modulus m) one ∙ one-mul (modulus m)))
-
--- ---- the row
-
+-- either way round
 by-order : {P : Type 0} (a b : ℕ) → (a < b → P) → (b ≤ a → P) → P
 by-order {P} a b f g = go (decLt a b)
   where
@@ -66,13 +31,14 @@ by-order {P} a b f g = go (decLt a b)
     go (yes h) = f h
     go (no n) = g (omega arith)
 
--- the copy has reached j
+-- ---- one doubling, which has copied j entries
+
 pub first-copy : (size step : ℕ) (row : List ℕ) → Doubled size step 0 row row
 first-copy size step row =
     record { long = refl; low = λ x h. refl; high = λ x h. omega arith; rest = λ x h. refl }
 
-pub next-copy : (size step j : ℕ) (old row : List ℕ) → size + size ≤ length old → j < size → Doubled size step j old row
-    → Doubled size step (j + 1) old (set row (size + j) (bitXor (getD row j 0) step))
+pub next-copy : (size step j : ℕ) (old row : List ℕ) → size + size ≤ length old → j < size
+    → Doubled size step j old row → Doubled size step (j + 1) old (set row (size + j) (bitXor (getD row j 0) step))
 unfolding add
 next-copy size step j old row room h d = record {
   long = length-set row (size + j) _ ∙ d .long;
@@ -92,7 +58,9 @@ next-copy size step j old row room h d = record {
         rw e (getD-set-same row (size + j) (bitXor (getD row j 0) step) 0 (omega (arith, d .long))
         ∙ ap (λ (y : ℕ). bitXor y step) (d .low j h))
 
--- the row's first 2 ^ i entries are filled, and step is next
+-- ---- the row
+
+-- its first 2 ^ i entries are filled, and step is next
 pub record Filled (m c i size step : ℕ) (row : List ℕ) : Type 0 where
   pub place : i ≤ m
   pub count : size ≡ 2 ^ i
@@ -124,14 +92,15 @@ module _ (m c : ℕ) where
   unfolding add
   one-more i x h =
       F.add-comm (mul m c x) (mul m c (2 ^ i)) ∙ sym (F.mul-add-r m c (2 ^ i) x)
-      ∙ ap (mul m c) (ap (λ (y : ℕ). bitXor y x) (sym (one-mul (2 ^ i))) ∙ xor-shifted 1 i x h ∙ ap (λ (y : ℕ). y + x) (one-mul (2 ^ i)))
+      ∙ ap (mul m c) (subst (λ (y : ℕ). bitXor y x ≡ y + x) (one-mul (2 ^ i)) (xor-shifted 1 i x h))
 
   next-step : (i step : ℕ) → suc i < m → step ≡ mul m c (2 ^ i) → times2 m step ≡ mul m c (2 ^ suc i)
   next-step i step h e =
       ap (times2 m) (e ∙ F.mul-comm m c (2 ^ i)) ∙ sym (F.mul-times2-l m (2 ^ i) c) ∙ F.mul-comm m (times2 m (2 ^ i)) c
       ∙ ap (mul m c) (F.times2-pow m i h)
 
-  module _ {i size step : ℕ} {row row′ : List ℕ} (h : i < m) (f : Filled m c i size step row) (d : Doubled size step size row row′) where
+  module _ {i size step : ℕ} {row row′ : List ℕ} (h : i < m) (f : Filled m c i size step row)
+      (d : Doubled size step size row row′) where
     upper : (x : ℕ) → size ≤ x → getD row′ x 0 ≡ getD row′ (size + (x - size)) 0
     upper x k = let e : x ≡ size + (x - size) = omega arith in ap (λ (y : ℕ). getD row′ y 0) e
 
@@ -139,14 +108,16 @@ module _ (m c : ℕ) where
     fill-at x l =
         by-order x size (λ k. d .low x k ∙ f .at x (omega (arith, f .count)))
         (λ k. upper x k ∙ d .high (x - size) (omega arith)
-        ∙ ap₂ add (f .at (x - size) (omega (arith, f .count))) (f .next h) ∙ one-more i (x - size) (omega (arith, f .count))
+        ∙ ap₂ add (f .at (x - size) (omega (arith, f .count))) (f .next h)
+        ∙ one-more i (x - size) (omega (arith, f .count))
         ∙ ap (mul m c) (omega (arith, f .count)))
 
     fill-small : (x : ℕ) → getD row′ x 0 < 2 ^ m
     fill-small x =
         by-order x size (λ k. rw (d .low x k) (f .small x))
         (λ k. by-order x (size + size)
-        (λ l. rw (upper x k ∙ d .high (x - size) (omega arith)) (F.add-lt m _ step (f .small (x - size)) (f .small-step)))
+        (λ l. rw (upper x k ∙ d .high (x - size) (omega arith))
+        (F.add-lt m _ step (f .small (x - size)) (f .small-step)))
         (λ l. rw (d .rest x l) (f .small x)))
 
     twice : size * 2 ≡ 2 ^ suc i
@@ -167,4 +138,6 @@ module _ (m c : ℕ) where
   room {i} w h f = omega (arith, f .count, pow-suc 2 i, pow-mono {i = suc i} h, size-le m w)
 
   pub last-fill : {i size step : ℕ} {row : List ℕ} → m ≤ i → Filled m c i size step row → Products m c row
-  last-fill {i} h f = let e : i ≡ m = omega (arith, f .place) in record { size = f .long; at = rw e at (f .at); small = f .small }
+  last-fill {i} h f =
+      let e : i ≡ m = omega (arith, f .place) in
+      record { size = f .long; at = rw e at (f .at); small = f .small }

@@ -1,7 +1,7 @@
 -- Pascal's triangle modulo 2, each row from the one above it: the rule of the table of parities.
 use mathlib.Core.Path.{_≡_, refl, sym, ap, _∙_, subst}
 use mathlib.Core.List.{List, [], _∷_, _++_}
-use Prim.Native.Nat.{ℕ, zero, suc, _+_, _*_, _%_, _<_}
+use Prim.Native.Nat.{ℕ, zero, suc, _+_, _*_, _-_, _%_, _<_}
 use native.Mathlib.Nat.{add-zero, add-suc, suc-add, zero-add, not-suc-le-zero, le-of-suc-le-suc, add-mod}
 use native.Mathlib.Omega.{arith}
 use lib.Dec.{T}
@@ -31,7 +31,8 @@ unfolding below
 below-length p [] = refl
 below-length p (x ∷ xs) = ap suc (below-length x xs)
 
-below-at : (p : ℕ) (r : List ℕ) (b : ℕ) → suc b < length r → getD (below p r) (suc b) 0 ≡ (getD r b 0 + getD r (suc b) 0) % 2
+below-at : (p : ℕ) (r : List ℕ) (b : ℕ) → suc b < length r
+    → getD (below p r) (suc b) 0 ≡ (getD r b 0 + getD r (suc b) 0) % 2
 unfolding below
 below-at p [] b h = absurd (not-suc-le-zero h)
 below-at p (x ∷ []) b h = absurd (not-suc-le-zero (le-of-suc-le-suc h))
@@ -53,7 +54,8 @@ row-next a r row = record { size = below-length 0 r ∙ row .size; at = go }
         below-at 0 r b (omega (arith, row .size))
         ∙ simp (row .at b (omega arith), row .at (suc b) h, ← add-mod)
 
-rows-at : (n a₀ a b : ℕ) (r : List ℕ) → Row a₀ r → a < n → b < deepest → getD (rows n r) (a * deepest + b) 0 ≡ binom (a₀ + a) b % 2
+rows-at : (n a₀ a b : ℕ) (r : List ℕ) → Row a₀ r → a < n → b < deepest
+    → getD (rows n r) (a * deepest + b) 0 ≡ binom (a₀ + a) b % 2
 unfolding rows
 rows-at zero a₀ a b r row ha hb = absurd (not-suc-le-zero ha)
 rows-at (suc n) a₀ zero b r row ha hb =
@@ -76,7 +78,7 @@ rows-length (suc n) r e =
 
 -- row 0
 unfoldable pub start : List ℕ
-start = 1 ∷ replicate 7 0
+start = 1 ∷ replicate (deepest - 1) 0
 
 start-row : Row 0 start
 unfolding start binom
@@ -84,7 +86,7 @@ start-row = record { size = refl; at = entry }
   where
     entry : (b : ℕ) → b < deepest → getD start b 0 ≡ binom 0 b % 2
     entry zero h = refl
-    entry (suc b) h = getD-replicate 7 b 0 0 (le-of-suc-le-suc h)
+    entry (suc b) h = getD-replicate (deepest - 1) b 0 0 (le-of-suc-le-suc h)
 
 pub parities-table : {xs : List ℕ} → T (same xs (rows longest start)) → Parities xs
 parities-table {xs} t =

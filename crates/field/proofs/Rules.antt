@@ -8,7 +8,6 @@ use native.Mathlib.Nat.{add-zero, add-suc, suc-add, zero-add, not-suc-le-zero, l
 use lib.Dec.{T, eqb, ltb, eqb→eq, ltb→lt}
 use lib.ListN.{length, getD}
 use mir.Facts.{and-yes, or-yes}
-use Rattle.defs.specs.Field.{pow}
 use Rattle.theory.proofs.Generator.{powers, powers-length, powers-at}
 use Rattle.field.specs.Arithmetic.{Powers, Logarithm, Logarithms}
 
@@ -35,7 +34,8 @@ unfoldable pub every : (ℕ → ℕ → Bool) → ℕ → List ℕ → Bool
 every f i [] = true
 every f i (x ∷ xs) = f i x && every f (suc i) xs
 
-every-from : (f : ℕ → ℕ → Bool) (xs : List ℕ) (i : ℕ) → T (every f i xs) → (k : ℕ) → k < length xs → T (f (i + k) (getD xs k 0))
+every-from : (f : ℕ → ℕ → Bool) (xs : List ℕ) (i : ℕ) → T (every f i xs)
+    → (k : ℕ) → k < length xs → T (f (i + k) (getD xs k 0))
 unfolding every
 every-from f [] i t k h = absurd (not-suc-le-zero h)
 every-from f (x ∷ xs) i t zero h = rw add-zero (and-yes (f i x) (every f (suc i) xs) t .0)
@@ -43,7 +43,8 @@ every-from f (x ∷ xs) i t (suc k) h =
     subst (λ (n : ℕ). T (f n (getD xs k 0))) (suc-add i k ∙ sym (add-suc i k))
     (every-from f xs (suc i) (and-yes (f i x) (every f (suc i) xs) t .1) k (le-of-suc-le-suc h))
 
-every-at : (f : ℕ → ℕ → Bool) (xs : List ℕ) → T (every f 0 xs) → (k : ℕ) → k < length xs → T (f k (getD xs k 0))
+every-at : (f : ℕ → ℕ → Bool) (xs : List ℕ) → T (every f 0 xs)
+    → (k : ℕ) → k < length xs → T (f k (getD xs k 0))
 every-at f xs t k h = subst (λ (n : ℕ). T (f n (getD xs k 0))) (zero-add k) (every-from f xs 0 t k h)
 
 -- ---- powers and logarithms, in each field
@@ -65,13 +66,15 @@ pub logarithms-table : (m : ℕ) → 1 < m → (exps : List ℕ) → exps ≡ po
 unfolding isLogarithm
 logarithms-table m w exps q {xs} long t = record {
   size = long;
-  at = λ a h n. ⊎-elim (λ e. absurd (n (eqb→eq a 0 e))) (found a (getD xs a 0)) (or-yes (eqb a 0) _ (every-at (isLogarithm m exps) xs t a (rw long h)));
+  at = λ a h n. ⊎-elim (λ e. absurd (n (eqb→eq a 0 e))) (found a (getD xs a 0))
+      (or-yes (eqb a 0) _ (every-at (isLogarithm m exps) xs t a (rw long h)));
 }
   where
     found : (a l : ℕ) → T (ltb l (2 ^ m - 1) && eqb (getD exps l 0) a) → Logarithm m a l
     found a l u =
         let (b, e) = and-yes (ltb l (2 ^ m - 1)) (eqb (getD exps l 0) a) u in
+        let h : l < 2 ^ m - 1 = ltb→lt l (2 ^ m - 1) b in
         record {
-          power = sym (ap (λ (s : List ℕ). getD s l 0) q ∙ powers-at m (2 ^ m - 1) l w (ltb→lt l (2 ^ m - 1) b)) ∙ eqb→eq (getD exps l 0) a e;
-          below = ltb→lt l (2 ^ m - 1) b;
+          power = sym (ap (λ (s : List ℕ). getD s l 0) q ∙ powers-at m (2 ^ m - 1) l w h) ∙ eqb→eq (getD exps l 0) a e;
+          below = h;
         }

@@ -1,6 +1,8 @@
 // Arithmetic of the fields with 4, 16 and 256 elements, and parities of binomials.
 mod tables;
 
+use defs::LONGEST;
+use tables::DEEPEST;
 use tables::EXP;
 use tables::EXP4;
 use tables::EXP16;
@@ -12,9 +14,11 @@ ghost use mathlib.Core.Path.{_≡_};
 ghost use Prim.Native.Nat.{_+_, _*_, _-_, _%_, _^_, _<_, _≤_};
 ghost use Rattle.defs.specs.Field.{Width, modulus, times2, mul, pow, binom};
 ghost use Rattle.defs.specs.Limits.{deepest, longest};
-ghost use Rattle.field.specs.Arithmetic.{Element, Inverse, Logarithm, Powers, Logarithms, Parities, Products, Doubled};
+ghost use Rattle.field.specs.Arithmetic.{Element, Inverse, Logarithm, Powers, Logarithms};
+ghost use Rattle.field.specs.Arithmetic.{Parities, Products, Doubled};
 ghost use lib.ListN.{length};
 
+// The tables, each with its rule, so that whoever looks one up cites the rule.
 fn powers4() -> [u8; 6]
     ensures { λ r. ⌜ Powers 2 r ⌝ }
 {
@@ -51,7 +55,8 @@ fn logarithms256() -> [u8; 256]
     LOG
 }
 
-pub fn parities() -> [u8; 1024]
+// For an inner loop to look up in: a const is built anew at every read.
+pub fn parities() -> [u8; LONGEST * DEEPEST]
     ensures { λ r. ⌜ Parities r ⌝ }
 {
     PARITY
@@ -63,7 +68,7 @@ pub fn odd_binomial(a: usize, b: usize) -> u8
     ensures { λ r. ⌜ r ≡ binom a b % 2 ⌝ }
 {
     let table = parities();
-    table[a * 8 + b]
+    table[a * DEEPEST + b]
 }
 
 // The power i of 2.

@@ -1,5 +1,10 @@
 // The tables: powers of 2 and logarithms in each field, and parities of binomials. Each rule is proved over the whole table.
 
+use defs::LONGEST;
+
+// The symbols that a chunk may have.
+pub const DEEPEST: usize = 8;
+
 // 2^i at i, in the field with 256 elements.
 pub const EXP: [u8; 510] = [
     1,
@@ -775,7 +780,7 @@ pub const LOG: [u8; 256] = [
 ];
 
 // C(a, b) modulo 2, at a * 8 + b.
-pub const PARITY: [u8; 1024] = [
+pub const PARITY: [u8; LONGEST * DEEPEST] = [
     1,
     0,
     0,

@@ -1,5 +1,4 @@
 -- The laws of add and mul, at every m.
--- Assumes nothing.
 use mathlib.Core.Path.{_≡_, refl, sym, ap, ap₂, _∙_}
 use Prim.Native.Nat.{ℕ, zero, suc, _+_, _*_, _/_, _%_, _^_, _≤_, _<_}
 use native.Mathlib.Nat.{not-suc-le-zero, le-of-suc-le-suc, mod-lt, mod-mod, mod-eq-of-lt, zero-mul, one-mul, zero-lt-suc, mul-one, mul-mod-left, mul-div-cancel, mul-right-comm, suc-add, mod-one, add-zero, zero-add, pow-suc, div-eq-of-lt}

@@ -1,4 +1,4 @@
--- 2 generates the nonzero elements of each field, by one computed test for each; so they have inverses, and can be cancelled.
+-- 2 generates the nonzero elements of each field, by one computed test for each; so they have inverses and cancel.
 use mathlib.Core.Path.{_≡_, refl, sym, ap, _∙_, subst}
 use mathlib.Core.Logic.{⊎-elim, inl, inr}
 use mathlib.Core.Bool.{Bool, true, false, _&&_, _||_, not}

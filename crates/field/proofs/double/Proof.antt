@@ -1,9 +1,9 @@
 -- `field::double` meets its contract: the loop copies one entry a turn.
-use Prim.Native.Nat.{_-_, _≤_}
 use mathlib.Core.Path.{_≡_}
+use Prim.Native.Nat.{_-_, _≤_}
 use native.Mathlib.Omega.{arith}
-use Rattle.field.proofs.Doubling.{first-copy, next-copy}
 use Rattle.field.specs.Arithmetic.{Doubled}
+use Rattle.field.proofs.Doubling.{first-copy, next-copy}
 use borrow.Author.Needs.{needs}
 use Rattle.field.proofs.double.Statement.{statement}
 use Rattle.field.proofs.double.Tie as tie
@@ -33,10 +33,14 @@ loop-less : tie.Need-loop-less Inv-loop μ-loop
 loop-less c = search needs
 
 loop-again : tie.Need-loop-again Inv-loop μ-loop
-loop-again c = (omega arith, next-copy _ _ _ _ _ (omega arith) (c .before .loop-test .taken) (c .before .before .loop .inv .1))
+loop-again c =
+    let i = c .before .before .loop .inv .1 in
+    (omega arith, next-copy _ _ _ _ _ (omega arith) (c .before .loop-test .taken) i)
 
 returns : tie.Need-returns Inv-loop μ-loop
-returns c = let e : c .before .loop .j ≡ c .before .before .args .size = omega arith in rw e at (c .before .loop .inv .1)
+returns c =
+    let e : c .before .loop .j ≡ c .before .before .args .size = omega arith in
+    rw e at (c .before .loop .inv .1)
 
 pub double-spec : {M : Type 1} → statement M
 double-spec =

@@ -11,7 +11,9 @@ array-read-result : tie.Need-array-read-result
 array-read-result c = rw (c .before .if1 .taken) at (c .before .before .pre .1)
 
 returns : tie.Need-returns
-returns c = power-in _ (c .before .before .pre .0) (c .before .if1 .taken) (c .powers4 .ensures) _ (c .before .before .pre .1)
+returns c =
+    let s = c .before .before in
+    power-in _ (s .pre .0) (c .before .if1 .taken) (c .powers4 .ensures) _ (s .pre .1)
 
 powers16-requires : tie.Need-powers16-requires
 powers16-requires c κs = search needs
@@ -20,16 +22,23 @@ array-read-result-2 : tie.Need-array-read-result-2
 array-read-result-2 c = rw (c .before .if2 .taken) at (c .before .before .before .pre .1)
 
 returns-2 : tie.Need-returns-2
-returns-2 c = power-in _ (c .before .before .before .pre .0) (c .before .if2 .taken) (c .powers16 .ensures) _ (c .before .before .before .pre .1)
+returns-2 c =
+    let s = c .before .before .before in
+    power-in _ (s .pre .0) (c .before .if2 .taken) (c .powers16 .ensures) _ (s .pre .1)
 
 powers256-requires : tie.Need-powers256-requires
 powers256-requires c κs = search needs
 
 array-read-result-3 : tie.Need-array-read-result-3
-array-read-result-3 c = rw (width-8 _ (c .before .before .before .pre .0) (c .before .before .if1 .left) (c .before .if2 .left)) at (c .before .before .before .pre .1)
+array-read-result-3 c =
+    let s = c .before .before .before in
+    rw (width-8 _ (s .pre .0) (c .before .before .if1 .left) (c .before .if2 .left)) at (s .pre .1)
 
 returns-3 : tie.Need-returns-3
-returns-3 c = power-in _ (c .before .before .before .pre .0) (width-8 _ (c .before .before .before .pre .0) (c .before .before .if1 .left) (c .before .if2 .left)) (c .powers256 .ensures) _ (c .before .before .before .pre .1)
+returns-3 c =
+    let s = c .before .before .before in
+    let e = width-8 _ (s .pre .0) (c .before .before .if1 .left) (c .before .if2 .left) in
+    power-in _ (s .pre .0) e (c .powers256 .ensures) _ (s .pre .1)
 
 pub exp-spec : {M : Type 1} → statement M
 exp-spec =

@@ -23,7 +23,9 @@ exp-requires : tie.Need-exp-requires
 exp-requires c κs = search needs
 
 returns : tie.Need-returns
-returns c = inverse-of _ (c .before .before .before .pre .0) (c .before .log .ensures) (rw (c .before .before .size .ensures) at (c .exp .ensures))
+returns c =
+    let e = rw (c .before .before .size .ensures) at (c .exp .ensures) in
+    inverse-of _ (c .before .before .before .pre .0) (c .before .log .ensures) e
 
 pub inverse-spec : {M : Type 1} → statement M
 inverse-spec =

@@ -11,7 +11,7 @@ array-read-result : tie.Need-array-read-result
 array-read-result c = rw (c .before .if1 .taken) at (c .before .before .pre .1 .0)
 
 returns : tie.Need-returns
-returns c = logarithm-in _ (c .before .before .pre .0) (c .before .if1 .taken) (c .logarithms4 .ensures) _ (c .before .before .pre .1 .0) (c .before .before .pre .1 .1)
+returns c = logarithm-in _ (c .before .if1 .taken) (c .logarithms4 .ensures) _ (c .before .before .pre .1)
 
 logarithms16-requires : tie.Need-logarithms16-requires
 logarithms16-requires c κs = search needs
@@ -20,7 +20,7 @@ array-read-result-2 : tie.Need-array-read-result-2
 array-read-result-2 c = rw (c .before .if2 .taken) at (c .before .before .before .pre .1 .0)
 
 returns-2 : tie.Need-returns-2
-returns-2 c = logarithm-in _ (c .before .before .before .pre .0) (c .before .if2 .taken) (c .logarithms16 .ensures) _ (c .before .before .before .pre .1 .0) (c .before .before .before .pre .1 .1)
+returns-2 c = logarithm-in _ (c .before .if2 .taken) (c .logarithms16 .ensures) _ (c .before .before .before .pre .1)
 
 logarithms256-requires : tie.Need-logarithms256-requires
 logarithms256-requires c κs = search needs
@@ -29,7 +29,10 @@ array-read-result-3 : tie.Need-array-read-result-3
 array-read-result-3 c = search needs
 
 returns-3 : tie.Need-returns-3
-returns-3 c = logarithm-in _ (c .before .before .before .pre .0) (width-8 _ (c .before .before .before .pre .0) (c .before .before .if1 .left) (c .before .if2 .left)) (c .logarithms256 .ensures) _ (c .before .before .before .pre .1 .0) (c .before .before .before .pre .1 .1)
+returns-3 c =
+    let s = c .before .before .before in
+    let e = width-8 _ (s .pre .0) (c .before .before .if1 .left) (c .before .if2 .left) in
+    logarithm-in _ e (c .logarithms256 .ensures) _ (s .pre .1)
 
 pub log-spec : {M : Type 1} → statement M
 log-spec =

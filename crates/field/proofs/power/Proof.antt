@@ -27,9 +27,10 @@ loop-less c = omega arith
 
 loop-again : tie.Need-loop-again Inv-loop μ-loop
 loop-again c =
-    ⊎-elim
-    (λ w. turn-odd _ (c .before .before .before .before .pre .0) (c .before .before .before .loop .inv) (w .0 .taken) (w .2) (w .1 .ensures) (c .mul2 .ensures))
-    (λ w. turn-even _ (c .before .before .before .before .pre .0) (c .before .before .before .loop .inv) (w .0 .left) (w .1) (c .mul2 .ensures))
+    let w = c .before .before .before .before .pre .0 in
+    let i = c .before .before .before .loop .inv in
+    ⊎-elim (λ o. turn-odd _ w i (o .0 .taken) (o .2) (o .1 .ensures) (c .mul2 .ensures))
+    (λ o. turn-even _ w i (o .0 .left) (o .1) (c .mul2 .ensures))
     (c .before .if1 .came)
 
 returns : tie.Need-returns Inv-loop μ-loop

@@ -16,13 +16,18 @@ loop-holds : tie.Need-loop-holds Inv-loop μ-loop
 loop-holds c = first-fill _ _ (c .pre .1)
 
 double-requires : tie.Need-double-requires Inv-loop μ-loop
-double-requires c κs = (c .before .before .loop .inv .long, room _ _ (c .before .before .before .pre .0) (c .before .loop-test .taken) (c .before .before .loop .inv))
+double-requires c κs =
+    let i = c .before .before .loop .inv in
+    (i .long, room _ _ (c .before .before .before .pre .0) (c .before .loop-test .taken) i)
 
 times2-requires : tie.Need-times2-requires Inv-loop μ-loop
 times2-requires c κs = (c .before .before .before .before .pre .0, c .before .before .before .loop .inv .small-step)
 
 mul-size : tie.Need-mul-size Inv-loop μ-loop
-mul-size c = omega (arith, room _ _ (c .before .before .before .before .before .pre .0) (c .before .before .before .loop-test .taken) (c .before .before .before .before .loop .inv))
+mul-size c =
+    let i = c .before .before .before .before .loop .inv in
+    let w = c .before .before .before .before .before .pre .0 in
+    omega (arith, room _ _ w (c .before .before .before .loop-test .taken) i)
 
 add-i : tie.Need-add-i Inv-loop μ-loop
 add-i c = search needs
@@ -31,7 +36,9 @@ loop-less : tie.Need-loop-less Inv-loop μ-loop
 loop-less c = search needs
 
 loop-again : tie.Need-loop-again Inv-loop μ-loop
-loop-again c = next-fill _ _ (c .before .before .before .loop-test .taken) (c .before .before .before .before .loop .inv) (c .before .double .ensures) (c .times2 .ensures)
+loop-again c =
+    let i = c .before .before .before .before .loop .inv in
+    next-fill _ _ (c .before .before .before .loop-test .taken) i (c .before .double .ensures) (c .times2 .ensures)
 
 returns : tie.Need-returns Inv-loop μ-loop
 returns c = last-fill _ _ (c .loop-test .left) (c .before .loop .inv)
