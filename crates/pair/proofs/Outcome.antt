@@ -19,7 +19,7 @@ use Rattle.defs.specs.declared.Verdict.the-variants.{Fine, Refused}
 use Rattle.defs.specs.declared.Code.{Code}
 use Rattle.theory.proofs.Place.{length-tab, getD-tab}
 use Rattle.code.specs.Checked.{pointsOf, IsCode}
-use Rattle.solve.specs.Table.{at}
+use Rattle.solve.specs.Table.{stride, at}
 use Rattle.solve.specs.System.{Matrix, dot, Solves, free}
 use Rattle.solve.specs.Answer.{IsFree, IsFull}
 use Rattle.solve.proofs.Sums.{lt-or-le}
@@ -47,12 +47,12 @@ module _ {m r s₀ s₁ : ℕ} (k : ℕ) {points w t : List ℕ} (S : System m r
       symbols₁ = o₁;
       nonzero = λ z₀ z₁.
           let is-zero : x c ≡ 0 =
-              ⊎-elim
-              (λ l. J .first c l ∙ z₀ c)
-              (λ (l : s₀ ≤ c).
-              let e : c ≡ s₀ + (c - s₀) = omega arith in
-              ap x e ∙ J .second (c - s₀) (omega arith) ∙ z₁ (c - s₀))
-              (lt-or-le c s₀) in
+          ⊎-elim
+          (λ l. J .first c l ∙ z₀ c)
+          (λ (l : s₀ ≤ c).
+          let e : c ≡ s₀ + (c - s₀) = omega arith in
+          ap x e ∙ J .second (c - s₀) (omega arith) ∙ z₁ (c - s₀))
+          (lt-or-le c s₀) in
           omega arith;
       vanishes = λ i l j h. sym (at-depth o₀ o₁ i j l h) ∙ solves (i * r + j) (omega (arith, chunk-fits r i (length points) (i * r) refl l));
     }
@@ -113,18 +113,20 @@ tabs-joined x s₀ s₁ = record {
   second = λ a l. sym (getD-tab (λ i. x (s₀ + i)) s₁ a l);
 }
 
--- k symbols of a message and n of a row
-pub record Bounds (n k : ℕ) : Type 0 where
-  pub some : 0 < k
-  pub enough : k ≤ n
-  pub top : n ≤ longest
-
 -- how many coefficients Q₀ and Q₁ may have
 abbrev pub unknowns₀ : Code → List ℕ → ℕ
 unknowns₀ c w = (length w + c .k) / 2
 
 abbrev pub unknowns₁ : Code → List ℕ → ℕ
 unknowns₁ c w = (length w - c .k) / 2 + 1
+
+-- n equations, and s₀ and s₁ unknowns, fit into the table
+pub record Sizes (n s₀ s₁ : ℕ) : Type 0 where
+  pub top : n ≤ longest
+  pub small : s₁ ≤ s₀
+  pub fits : s₀ + s₁ ≤ stride
+  pub top₀ : s₀ ≤ longest
+  pub top₁ : s₁ ≤ longest
 
 module _ {c : Code} {w : List ℕ} (C : IsCode c) (W : IsRow c w) where
   abbrev points : List ℕ
@@ -136,12 +138,15 @@ module _ {c : Code} {w : List ℕ} (C : IsCode c) (W : IsRow c w) where
   abbrev s₁ : ℕ
   s₁ = unknowns₁ c w
 
-  pub bounds : Bounds (length w) (c .k)
-  bounds = record {
-    some = code-numbers C .k-pos;
-    enough = omega (arith, code-numbers C .k-top, W .size);
-    top = omega (arith, code-numbers C .row-top, W .size);
-  }
+  pub enough : c .k ≤ length w
+  enough = omega (arith, code-numbers C .k-top, W .size)
+
+  pub sizes : Sizes (length w) s₀ s₁
+  sizes =
+      let e = enough in
+      let k = code-numbers C .k-pos in
+      let n : length w ≤ longest = omega (arith, code-numbers C .row-top, W .size) in
+      record { top = n; small = omega arith; fits = omega arith; top₀ = omega arith; top₁ = omega arith }
 
   rows-are : length w ≡ c .r * length points
   rows-are = W .size ∙ ap (λ (n : ℕ). c .r * n) (sym (C .counted))

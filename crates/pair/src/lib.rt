@@ -106,7 +106,15 @@ fn add_multiple(t: &mut [u8; TABLE], m: usize, x: u8, to: usize, from: usize, d:
 }
 
 // Writes the equations of a chunk at a point, from row p on.
-fn write_chunk(t: &mut [u8; TABLE], m: usize, point: u8, chunk: &[u8], p: usize, s0: usize, s1: usize)
+fn write_chunk(
+    t: &mut [u8; TABLE],
+    m: usize,
+    point: u8,
+    chunk: &[u8],
+    p: usize,
+    s0: usize,
+    s1: usize,
+)
     requires { ⌜ Shape m (now t) ⌝ }
     requires { ⌜ Symbols m (now chunk) ⌝ }
     requires { ⌜ (point < 2 ^ m) × (0 < length (now chunk)) × (p + length (now chunk) ≤ longest) × (s1 ≤ s0) × (s0 + s1 ≤ stride) ⌝ }

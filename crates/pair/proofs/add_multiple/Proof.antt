@@ -1,4 +1,6 @@
-use Prim.Native.Nat.{_+_, _≤_, _<_, _-_}
+-- `pair::add_multiple` meets its contract.
+-- Assumes nothing.
+use Prim.Native.Nat.{_≤_, _-_}
 use native.Mathlib.Omega.{arith}
 use Rattle.pair.specs.Fill.{Added}
 use Rattle.pair.proofs.Depths.{all-bytes}
@@ -6,10 +8,6 @@ use Rattle.pair.proofs.Multiples.{added-none, added-more, added-all}
 use borrow.Author.Needs.{needs}
 use Rattle.pair.proofs.add_multiple.Statement.{statement}
 use Rattle.pair.proofs.add_multiple.Tie as tie
-use Rattle.pair.proofs.add_multiple.Reads as reads
-use Rattle.pair.proofs.add_multiple.Lts as lts
-use Rattle.pair.proofs.add_products.Reads as add-products-reads
-use Rattle.field.proofs.product_row.Reads as product-row-reads
 
 abbrev Inv-loop : tie.InvT-loop
 Inv-loop t₀ m x to from d n products j₀ t j = (j ≤ d) × Added m x to from j n t₀ t
@@ -17,48 +15,38 @@ Inv-loop t₀ m x to from d n products j₀ t j = (j ≤ d) × Added m x to from
 abbrev μ-loop : tie.MeasureT-loop
 μ-loop t₀ m x to from d n products j₀ t j = d - j
 
--- src/lib.rt:127:20
 product-row-requires : tie.Need-product-row-requires Inv-loop μ-loop
 product-row-requires c κs = search needs
 
--- src/lib.rt:129:5
 loop-holds : tie.Need-loop-holds Inv-loop μ-loop
 loop-holds c = (omega arith, added-none (c .before .pre .0))
 
--- src/lib.rt:130:18
 mul-at : tie.Need-mul-at Inv-loop μ-loop
 mul-at c = search needs
 
--- src/lib.rt:131:36
 add-add-products : tie.Need-add-add-products Inv-loop μ-loop
 add-add-products c = search needs
 
--- src/lib.rt:131:45
 add-add-products-2 : tie.Need-add-add-products-2 Inv-loop μ-loop
 add-add-products-2 c = search needs
 
--- src/lib.rt:131:9
 add-products-requires : tie.Need-add-products-requires Inv-loop μ-loop
 add-products-requires c κs =
     let al = c .before .before .before in
     (all-bytes (al .loop .inv .1 .shape) (al .before .product-row .ensures), (omega arith, omega arith))
 
--- src/lib.rt:132:9
 add-j : tie.Need-add-j Inv-loop μ-loop
 add-j c = search needs
 
--- src/lib.rt:129:5
 loop-less : tie.Need-loop-less Inv-loop μ-loop
 loop-less c = search needs
 
--- src/lib.rt:129:5
 loop-again : tie.Need-loop-again Inv-loop μ-loop
 loop-again c =
     let al = c .before .before .before .before in
     let st = al .before .before in
     (omega arith, added-more (al .loop .j) (st .pre .1 .0 .1) (st .pre .1 .1) (al .before .product-row .ensures) (al .loop .inv .1) (c .add-products .ensures))
 
--- src/lib.rt:121:1
 returns : tie.Need-returns Inv-loop μ-loop
 returns c = added-all (c .before .loop .inv .0) (c .loop-test .left) (c .before .loop .inv .1)
 

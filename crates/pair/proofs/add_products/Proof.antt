@@ -1,5 +1,7 @@
-use Prim.Native.Nat.{_+_, _≤_, _<_, _-_}
-use mathlib.Core.Path.{_≡_, sym, ap, ap₂, _∙_}
+-- `pair::add_products` meets its contract.
+-- Assumes nothing.
+use Prim.Native.Nat.{_+_, _≤_, _-_}
+use mathlib.Core.Path.{ap, ap₂}
 use native.Mathlib.Omega.{arith}
 use lib.ListN.{getD}
 use Rattle.defs.specs.Field.{add}
@@ -9,8 +11,6 @@ use Rattle.pair.proofs.Spans.{span-none, span-more, span-all, span-befo
 use borrow.Author.Needs.{needs}
 use Rattle.pair.proofs.add_products.Statement.{statement}
 use Rattle.pair.proofs.add_products.Tie as tie
-use Rattle.pair.proofs.add_products.Reads as reads
-use Rattle.pair.proofs.add_products.Lts as lts
 
 abbrev Inv-loop : tie.InvT-loop
 Inv-loop t₀ products to from n a₀ t a =
@@ -19,53 +19,42 @@ Inv-loop t₀ products to from n a₀ t a =
 abbrev μ-loop : tie.MeasureT-loop
 μ-loop t₀ products to from n a₀ t a = n - a
 
--- src/lib.rt:108:5
 loop-holds : tie.Need-loop-holds Inv-loop μ-loop
 loop-holds c = (omega arith, span-none _ _ _)
 
--- src/lib.rt:109:17
 add-k : tie.Need-add-k Inv-loop μ-loop
 add-k c = search needs
 
--- src/lib.rt:110:19
 add-x : tie.Need-add-x Inv-loop μ-loop
 add-x c = search needs
 
--- src/lib.rt:110:17
 element-copy-out-x : tie.Need-element-copy-out-x Inv-loop μ-loop
 element-copy-out-x c = search needs
 
--- src/lib.rt:111:16
 element-copy-out-t : tie.Need-element-copy-out-t Inv-loop μ-loop
 element-copy-out-t c = search needs
 
--- src/lib.rt:111:32
 cast-t : tie.Need-cast-t Inv-loop μ-loop
 cast-t c =
     let al = c .before .before .before in
     let st = al .before in
     omega (arith, eq-lt (span-before (al .loop .inv .1) (st .args .from + al .loop .a) (omega arith)) (st .pre .0 .low _))
 
--- src/lib.rt:111:23
 element-copy-out-t-2 : tie.Need-element-copy-out-t-2 Inv-loop μ-loop
 element-copy-out-t-2 c =
     let al = c .before .before .before in
     let st = al .before in
     eq-lt (span-before (al .loop .inv .1) (st .args .from + al .loop .a) (omega arith)) (st .pre .0 .low _)
 
--- src/lib.rt:111:9
 element-write-t : tie.Need-element-write-t Inv-loop μ-loop
 element-write-t c = search needs
 
--- src/lib.rt:112:9
 add-a : tie.Need-add-a Inv-loop μ-loop
 add-a c = search needs
 
--- src/lib.rt:108:5
 loop-less : tie.Need-loop-less Inv-loop μ-loop
 loop-less c = search needs
 
--- src/lib.rt:108:5
 loop-again : tie.Need-loop-again Inv-loop μ-loop
 unfolding add
 loop-again c =
@@ -78,7 +67,6 @@ loop-again c =
           (ap (look (st .args .products .now)) (span-before S (st .args .from + al .loop .a) (omega arith)))),
     )
 
--- src/lib.rt:103:1
 returns : tie.Need-returns Inv-loop μ-loop
 returns c = span-all (c .before .loop .inv .0) (c .loop-test .left) (c .before .loop .inv .1)
 

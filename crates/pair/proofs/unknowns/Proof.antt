@@ -1,5 +1,7 @@
-use Prim.Native.Nat.{ℕ, _+_, _≤_, _<_, _-_}
-use mathlib.Core.Path.{_≡_, ap, sym, _∙_}
+-- `pair::unknowns` meets its contract.
+-- Assumes nothing.
+use Prim.Native.Nat.{ℕ, _+_, _≤_, _-_}
+use mathlib.Core.Path.{_≡_, ap, _∙_}
 use native.Mathlib.Omega.{arith}
 use lib.ListN.{take, drop}
 use lib.Seq.{take-at}
@@ -14,9 +16,6 @@ use Rattle.solve.specs.System.{free}
 use borrow.Author.Needs.{needs}
 use Rattle.pair.proofs.unknowns.Statement.{statement}
 use Rattle.pair.proofs.unknowns.Tie as tie
-use Rattle.pair.proofs.unknowns.Reads as reads
-use Rattle.pair.proofs.unknowns.Lts as lts
-use Rattle.solve.proofs.unknown.Reads as unknown-reads
 
 abbrev Inv-loop : tie.InvT-loop
 Inv-loop t c first n q₀ a₀ q a = (a ≤ n) × (q ≡ filled zeros 0 (λ i. free (at t) c (first + i)) a)
@@ -24,32 +23,25 @@ Inv-loop t c first n q₀ a₀ q a = (a ≤ n) × (q ≡ filled zeros 0 (λ i. f
 abbrev μ-loop : tie.MeasureT-loop
 μ-loop t c first n q₀ a₀ q a = n - a
 
--- src/lib.rt:178:5
 loop-holds : tie.Need-loop-holds Inv-loop μ-loop
 unfolding zeros
 loop-holds c = (omega arith, filled-none _ _ _)
 
--- src/lib.rt:179:30
 add-unknown : tie.Need-add-unknown Inv-loop μ-loop
 add-unknown c = search needs
 
--- src/lib.rt:179:16
 unknown-requires : tie.Need-unknown-requires Inv-loop μ-loop
 unknown-requires c κs = search needs
 
--- src/lib.rt:179:9
 array-write-q : tie.Need-array-write-q Inv-loop μ-loop
 array-write-q c = search needs
 
--- src/lib.rt:180:9
 add-a : tie.Need-add-a Inv-loop μ-loop
 add-a c = search needs
 
--- src/lib.rt:178:5
 loop-less : tie.Need-loop-less Inv-loop μ-loop
 loop-less c = search needs
 
--- src/lib.rt:178:5
 loop-again : tie.Need-loop-again Inv-loop μ-loop
 loop-again c =
     let al = c .before .before in
@@ -57,7 +49,6 @@ loop-again c =
     let F : ℕ → ℕ = λ i. free (at (st .args .t .now)) (st .args .c) (st .args .first + i) in
     (omega arith, rw (al .loop .inv .1, c .unknown .ensures) (filled-next zeros F (al .loop .a) (omega (arith, length-zeros))))
 
--- src/lib.rt:172:1
 returns : tie.Need-returns Inv-loop μ-loop
 returns c =
     let st = c .before .before in

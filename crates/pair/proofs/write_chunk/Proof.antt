@@ -1,4 +1,6 @@
-use Prim.Native.Nat.{ℕ, _+_, _≤_, _<_, _-_}
+-- `pair::write_chunk` meets its contract.
+-- Assumes nothing.
+use Prim.Native.Nat.{ℕ, _≤_, _-_}
 use mathlib.Core.List.{List}
 use native.Mathlib.Omega.{arith}
 use lib.ListN.{length}
@@ -7,10 +9,6 @@ use Rattle.pair.proofs.Chunks.{chunk-first, chunk-more, chunk-all}
 use borrow.Author.Needs.{needs}
 use Rattle.pair.proofs.write_chunk.Statement.{statement}
 use Rattle.pair.proofs.write_chunk.Tie as tie
-use Rattle.pair.proofs.write_chunk.Reads as reads
-use Rattle.pair.proofs.write_chunk.Lts as lts
-use Rattle.pair.proofs.add_multiple.Reads as add-multiple-reads
-use Rattle.pair.proofs.write_depths.Reads as write-depths-reads
 
 abbrev Inv-loop : tie.InvT-loop
 Inv-loop t₀ m point chunk p s0 s1 r from b₀ t b =
@@ -28,62 +26,49 @@ module _ (c : tie.At-loop Inv-loop μ-loop) where
       (c .loop .b) (start .args .t .now) (c .loop .t)
   so-far = c .loop .inv .1 _ (chunk-first (start .pre .1 .1 .0 .4) (start .pre .1 .1 .1) (c .before .write-depths .ensures))
 
--- src/lib.rt:145:16
 mul-from : tie.Need-mul-from Inv-loop μ-loop
 mul-from c = search needs
 
--- src/lib.rt:146:5
 write-depths-requires : tie.Need-write-depths-requires Inv-loop μ-loop
 write-depths-requires c κs =
     let st = c .before .before in
     (st .pre .0, (st .pre .1 .1 .0 .0, st .pre .1 .1 .0 .1, omega arith, omega arith))
 
--- src/lib.rt:148:5
 loop-holds : tie.Need-loop-holds Inv-loop μ-loop
 loop-holds c = (omega arith, λ s w. w)
 
--- src/lib.rt:149:28
 shared-slice-read-add-multiple : tie.Need-shared-slice-read-add-multiple Inv-loop μ-loop
 shared-slice-read-add-multiple c = search needs
 
--- src/lib.rt:149:45
 mul-add-multiple : tie.Need-mul-add-multiple Inv-loop μ-loop
 mul-add-multiple c = search needs
 
--- src/lib.rt:149:38
 add-add-multiple : tie.Need-add-add-multiple Inv-loop μ-loop
 add-add-multiple c = search needs
 
--- src/lib.rt:149:38
 add-add-multiple-2 : tie.Need-add-add-multiple-2 Inv-loop μ-loop
 add-add-multiple-2 c = search needs
 
--- src/lib.rt:149:68
 sub-add-multiple : tie.Need-sub-add-multiple Inv-loop μ-loop
 sub-add-multiple c = search needs
 
--- src/lib.rt:149:9
 add-multiple-requires : tie.Need-add-multiple-requires Inv-loop μ-loop
 add-multiple-requires c κs =
     let al = c .before .before .before in
     (so-far al .shape, ((start al .pre .1 .0 (al .loop .b), omega arith, omega arith, omega arith), λ j i a b h l e. omega arith))
 
--- src/lib.rt:150:9
 add-b : tie.Need-add-b Inv-loop μ-loop
 add-b c = search needs
 
--- src/lib.rt:148:5
 loop-less : tie.Need-loop-less Inv-loop μ-loop
 loop-less c = search needs
 
--- src/lib.rt:148:5
 loop-again : tie.Need-loop-again Inv-loop μ-loop
 loop-again c =
     let al = c .before .before .before .before in
     let pre = start al .pre .1 .1 .0 in
     (omega arith, λ s w. chunk-more (pre .4) (al .loop .b) (pre .3) (omega arith) (al .loop .inv .1 s w) (c .add-multiple .ensures))
 
--- src/lib.rt:137:1
 returns : tie.Need-returns Inv-loop μ-loop
 returns c = chunk-all (c .before .loop .inv .0) (c .loop-test .left) (so-far (c .before))
 

@@ -1,3 +1,5 @@
+-- `pair::write_deeper` meets its contract.
+-- Assumes nothing.
 use Prim.Native.Nat.{_+_, _≤_, _<_, _-_}
 use mathlib.Core.Path.{_≡_, sym, ap, ap₂, _∙_}
 use native.Mathlib.Omega.{arith}
@@ -11,8 +13,6 @@ use Rattle.pair.proofs.Spans.{span-none, span-more, span-all, span-befo
 use borrow.Author.Needs.{needs}
 use Rattle.pair.proofs.write_deeper.Statement.{statement}
 use Rattle.pair.proofs.write_deeper.Tie as tie
-use Rattle.pair.proofs.write_deeper.Reads as reads
-use Rattle.pair.proofs.write_deeper.Lts as lts
 
 abbrev Inv-loop : tie.InvT-loop
 Inv-loop t₀ products to from n x₀ a₀ t x a =
@@ -22,43 +22,33 @@ Inv-loop t₀ products to from n x₀ a₀ t x a =
 abbrev μ-loop : tie.MeasureT-loop
 μ-loop t₀ products to from n x₀ a₀ t x a = n - a
 
--- src/lib.rt:81:5
 loop-holds : tie.Need-loop-holds Inv-loop μ-loop
 loop-holds c = (omega arith, omega arith, sym (deeper-first _ _), span-none _ _ _)
 
--- src/lib.rt:82:23
 add-above : tie.Need-add-above Inv-loop μ-loop
 add-above c = search needs
 
--- src/lib.rt:82:21
 element-copy-out-above : tie.Need-element-copy-out-above Inv-loop μ-loop
 element-copy-out-above c = search needs
 
--- src/lib.rt:83:11
 add-t : tie.Need-add-t Inv-loop μ-loop
 add-t c = search needs
 
--- src/lib.rt:83:9
 element-write-t : tie.Need-element-write-t Inv-loop μ-loop
 element-write-t c = search needs
 
--- src/lib.rt:84:30
 cast-x : tie.Need-cast-x Inv-loop μ-loop
 cast-x c = search needs
 
--- src/lib.rt:84:21
 element-copy-out-x : tie.Need-element-copy-out-x Inv-loop μ-loop
 element-copy-out-x c = search needs
 
--- src/lib.rt:85:9
 add-a : tie.Need-add-a Inv-loop μ-loop
 add-a c = search needs
 
--- src/lib.rt:81:5
 loop-less : tie.Need-loop-less Inv-loop μ-loop
 loop-less c = search needs
 
--- src/lib.rt:81:5
 loop-again : tie.Need-loop-again Inv-loop μ-loop
 unfolding add
 loop-again c =
@@ -71,7 +61,6 @@ loop-again c =
       span-more (al .loop .inv .3) (omega (arith, st .pre .0 .size)) _ (al .loop .inv .2),
     )
 
--- src/lib.rt:74:1
 returns : tie.Need-returns Inv-loop μ-loop
 returns c = span-all (c .before .loop .inv .0) (c .loop-test .left) (c .before .loop .inv .3)
 

@@ -1,3 +1,5 @@
+-- `pair::write_powers` meets its contract.
+-- Assumes nothing.
 use Prim.Native.Nat.{_≤_, _<_, _-_}
 use mathlib.Core.Path.{_≡_, ap, sym, _∙_}
 use native.Mathlib.Omega.{arith}
@@ -7,8 +9,6 @@ use Rattle.pair.proofs.Spans.{span-none, span-more, span-all, power-fir
 use borrow.Author.Needs.{needs}
 use Rattle.pair.proofs.write_powers.Statement.{statement}
 use Rattle.pair.proofs.write_powers.Tie as tie
-use Rattle.pair.proofs.write_powers.Reads as reads
-use Rattle.pair.proofs.write_powers.Lts as lts
 
 abbrev Inv-loop : tie.InvT-loop
 Inv-loop t₀ products to n x₀ a₀ t x a =
@@ -17,35 +17,27 @@ Inv-loop t₀ products to n x₀ a₀ t x a =
 abbrev μ-loop : tie.MeasureT-loop
 μ-loop t₀ products to n x₀ a₀ t x a = n - a
 
--- src/lib.rt:65:5
 loop-holds : tie.Need-loop-holds Inv-loop μ-loop
 loop-holds c = (omega arith, omega arith, sym (power-first _), span-none _ _ _)
 
--- src/lib.rt:66:11
 add-t : tie.Need-add-t Inv-loop μ-loop
 add-t c = search needs
 
--- src/lib.rt:66:9
 element-write-t : tie.Need-element-write-t Inv-loop μ-loop
 element-write-t c = search needs
 
--- src/lib.rt:67:22
 cast-x : tie.Need-cast-x Inv-loop μ-loop
 cast-x c = search needs
 
--- src/lib.rt:67:13
 element-copy-out-x : tie.Need-element-copy-out-x Inv-loop μ-loop
 element-copy-out-x c = search needs
 
--- src/lib.rt:68:9
 add-a : tie.Need-add-a Inv-loop μ-loop
 add-a c = search needs
 
--- src/lib.rt:65:5
 loop-less : tie.Need-loop-less Inv-loop μ-loop
 loop-less c = search needs
 
--- src/lib.rt:65:5
 loop-again : tie.Need-loop-again Inv-loop μ-loop
 loop-again c =
     let al = c .before .before in
@@ -56,7 +48,6 @@ loop-again c =
       span-more (al .loop .inv .3) (omega (arith, st .pre .0 .size)) _ (al .loop .inv .2),
     )
 
--- src/lib.rt:59:1
 returns : tie.Need-returns Inv-loop μ-loop
 returns c = span-all (c .before .loop .inv .0) (c .loop-test .left) (c .before .loop .inv .3)
 

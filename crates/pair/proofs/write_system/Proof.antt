@@ -1,4 +1,6 @@
-use Prim.Native.Nat.{ℕ, _+_, _*_, _≤_, _<_, _-_}
+-- `pair::write_system` meets its contract.
+-- Assumes nothing.
+use Prim.Native.Nat.{ℕ, _+_, _*_, _≤_, _-_}
 use mathlib.Core.Path.{_≡_, _∙_}
 use native.Mathlib.Omega.{arith}
 use lib.ListN.{length, getD}
@@ -12,9 +14,6 @@ use Rattle.pair.proofs.Systems.{code-numbers, code-symbols, code-point,
 use borrow.Author.Needs.{needs}
 use Rattle.pair.proofs.write_system.Statement.{statement}
 use Rattle.pair.proofs.write_system.Tie as tie
-use Rattle.pair.proofs.write_system.Reads as reads
-use Rattle.pair.proofs.write_system.Lts as lts
-use Rattle.pair.proofs.write_chunk.Reads as write-chunk-reads
 
 abbrev Inv-loop : tie.InvT-loop
 Inv-loop t₀ row s0 s1 code m r count i₀ p₀ t i p =
@@ -37,33 +36,26 @@ module _ (c : tie.In-loop Inv-loop μ-loop) where
   within : c .before .loop .p + start .args .t2 .r ≤ length (start .args .row .now)
   within = omega (arith, ends, start .pre .1 .0 .size)
 
--- src/lib.rt:139:5
 loop-holds : tie.Need-loop-holds Inv-loop μ-loop
 loop-holds c =
     let st = c .before in
     (omega arith, omega arith, system-none (zero-shape _ (code-numbers (st .pre .0) .width) (st .pre .1 .1 .0 .0) (st .pre .1 .1 .1)), λ k l. st .pre .1 .1 .1 k)
 
--- src/lib.rt:140:17
 add-q : tie.Need-add-q Inv-loop μ-loop
 add-q c = omega (arith, ends c, numbers c .row-top)
 
--- src/lib.rt:141:27
 element-copy-out-write-chunk : tie.Need-element-copy-out-write-chunk Inv-loop μ-loop
 element-copy-out-write-chunk c = omega (arith, count-small (numbers (c .before)))
 
--- src/lib.rt:141:43
 sub-write-chunk : tie.Need-sub-write-chunk Inv-loop μ-loop
 sub-write-chunk c = search needs
 
--- src/lib.rt:141:43
 part-write-chunk-start : tie.Need-part-write-chunk-start Inv-loop μ-loop
 part-write-chunk-start c = search needs
 
--- src/lib.rt:141:43
 part-write-chunk-end : tie.Need-part-write-chunk-end Inv-loop μ-loop
 part-write-chunk-end c = within (c .before .before)
 
--- src/lib.rt:141:9
 write-chunk-requires : tie.Need-write-chunk-requires Inv-loop μ-loop
 write-chunk-requires c κs =
     let il = c .before .before .before in
@@ -86,15 +78,12 @@ write-chunk-requires c κs =
       ),
     )
 
--- src/lib.rt:143:9
 add-i : tie.Need-add-i Inv-loop μ-loop
 add-i c = search needs
 
--- src/lib.rt:139:5
 loop-less : tie.Need-loop-less Inv-loop μ-loop
 loop-less c = search needs
 
--- src/lib.rt:139:5
 loop-again : tie.Need-loop-again Inv-loop μ-loop
 loop-again c =
     let il = c .before .before .before .before in
@@ -108,7 +97,6 @@ loop-again c =
       λ k l. C .after k (omega (arith, size)) ∙ al .inv .3 k (omega arith),
     )
 
--- src/lib.rt:127:1
 returns : tie.Need-returns Inv-loop μ-loop
 returns c = system-all (c .before .loop .inv .0) (c .loop-test .left) (c .before .loop .inv .2)
 
