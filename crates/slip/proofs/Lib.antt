@@ -1,0 +1,2 @@
+-- The laws of slips.
+pub mod Bits

@@ -1,0 +1,1 @@
+// The slip: its writer and its reader.
