@@ -2,3 +2,4 @@
 pub mod Field
 pub mod Place
 pub mod Fill
+pub mod Limits
