@@ -1,6 +1,6 @@
 -- The laws of bits and of the numbers that they make, over the width of a field.
 -- Assumes nothing.
-use Prim.Native.Nat.{ℕ, zero, suc, _+_, _*_, _/_, _%_, _^_, _<_, _≤_}
+use Prim.Native.Nat.{ℕ, zero, suc, _+_, _*_, _-_, _/_, _%_, _^_, _<_, _≤_}
 use mathlib.Core.Path.{_≡_, refl, ap, sym, _∙_}
 use mathlib.Core.List.{List, [], _∷_, _++_}
 use native.Mathlib.Nat.{zero-add, add-zero, suc-add, add-suc, add-comm, add-assoc, zero-mul, mul-zero, mul-suc, add-mul, mul-assoc, mul-le-mul-right, one-mul, zero-mod, mod-one, mod-lt, pow-suc}
@@ -24,6 +24,10 @@ pub symbols-append : (m : ℕ) (s t : List ℕ) → Symbols m s → Symbols m t 
 symbols-append m [] t a b i = b i
 symbols-append m (x ∷ s) t a b zero = a zero
 symbols-append m (x ∷ s) t a b (suc i) = symbols-append m s t (λ j. a (suc j)) b i
+
+-- what stands in the second of two lists
+pub getD-second : (s t : List ℕ) (j : ℕ) → length s ≤ j → getD (s ++ t) j 0 ≡ getD t (j - length s) 0
+getD-second s t j h = ap (λ (i : ℕ). getD (s ++ t) i 0) (omega arith) ∙ getD-append-add s t (j - length s) 0
 
 pub bits-are : (w x : ℕ) → Symbols 1 (bits w x)
 unfolding bits
@@ -74,7 +78,7 @@ pub number-behind : (w p n : ℕ) (s t : List ℕ) → length s ≡ n → number
 number-behind w p n s t e = number-same w (n + p) p (s ++ t) t (λ i l. rw (← e, add-assoc) (getD-append-add s t (p + i) 0))
 
 -- the number of a field that was written, alone and before others
-number-bits : (w x : ℕ) → numberAt w 0 (bits w x) ≡ x % 2 ^ w
+pub number-bits : (w x : ℕ) → numberAt w 0 (bits w x) ≡ x % 2 ^ w
 unfolding numberAt bits
 number-bits zero x = sym (mod-one x)
 number-bits (suc w) x =

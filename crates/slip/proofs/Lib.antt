@@ -1,2 +1,3 @@
 -- The laws of slips.
 pub mod Bits
+pub mod HeaderBits
