@@ -63,10 +63,10 @@ number-split zero b p s = rw (zero-add, zero-mul, zero-add, add-zero)
 number-split (suc a) b p s =
     rw (suc-add, number-split a b (suc p) s, pow-add, ← mul-assoc, ← add-assoc, ← add-mul, suc-add, ← add-suc)
 
--- a field within others: what is behind it is divided away, what is before it is cut off
-pub number-inside : (a w c p : ℕ) (s : List ℕ) → Symbols 1 s → numberAt (a + (w + c)) p s / 2 ^ c % 2 ^ w ≡ numberAt w (p + a) s
-number-inside a w c p s h =
-    rw (number-split a (w + c) p s, number-split w c (p + a) s, pow-add, ← mul-assoc, ← add-assoc, ← add-mul)
+-- a field of w bits with a before it and c behind it: what is behind is divided away, what is before is cut off
+pub number-inside : (a w c n p : ℕ) (s : List ℕ) → a + (w + c) ≡ n → Symbols 1 s → numberAt n p s / 2 ^ c % 2 ^ w ≡ numberAt w (p + a) s
+number-inside a w c n p s e h =
+    rw (← e, number-split a (w + c) p s, number-split w c (p + a) s, pow-add, ← mul-assoc, ← add-assoc, ← add-mul)
     (rw (high (numberAt a p s * 2 ^ w + numberAt w (p + a) s) c (number-below c (p + a + w) s h))
     (low (numberAt a p s) w (number-below w (p + a) s h)))
 

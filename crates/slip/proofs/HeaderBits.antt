@@ -50,10 +50,8 @@ head-number bytes s =
     rw (number-split 16 8 0 (allBits 8 bytes), number-split 8 8 0 (allBits 8 bytes), number-symbol 8 bytes 0, number-symbol 8 bytes 1, number-symbol 8 bytes 2)
     (omega (arith, s 0, s 1, s 2))
 
--- a field of w bits with a before it and c behind it
 field : (a w c h : ℕ) (bytes : List ℕ) → a + (w + c) ≡ 24 → h ≡ numberAt 24 0 (allBits 8 bytes) → h / 2 ^ c % 2 ^ w ≡ numberAt w a (allBits 8 bytes)
-field a w c h bytes e n =
-    rw (n, ← e, number-inside a w c 0 (allBits 8 bytes) (all-bits-are 8 bytes), zero-add)
+field a w c h bytes e n = rw (n, number-inside a w c 24 0 (allBits 8 bytes) e (all-bits-are 8 bytes), zero-add)
 
 pub heads : (bytes : List ℕ) (h : ℕ) → h ≡ numberAt 24 0 (allBits 8 bytes)
     → Heads bytes
