@@ -3,26 +3,20 @@
 use Prim.Native.Nat.{ℕ, _+_, _*_, _-_, _/_, _%_, _^_, _<_, _≤_}
 use mathlib.Core.Path.{_≡_, refl, ap, sym, _∙_}
 use mathlib.Core.List.{List}
-use mathlib.Core.Logic.{inl, inr}
 use native.Mathlib.Nat.{zero-add, mod-eq-of-lt, pow-succ'}
 use native.Mathlib.Numerals.{add-one}
 use native.Mathlib.Omega.{arith}
 use lib.Dec.{lit<, lit≤}
 use lib.ListN.{length, getD}
 use lib.Pow.{shl-exact, pow-mono}
-use Rattle.defs.specs.Field.{Width}
 use Rattle.defs.specs.Place.{Symbols}
 use Rattle.defs.specs.Slip.{bits, allBits, numberAt, headerBits, editionIn, widthIn, depthIn, countIn, dimensionIn}
 use Rattle.theory.specs.Limits.{Numbers}
 use Rattle.theory.proofs.Limits.{count-small}
 use Rattle.slip.specs.declared.Head.{Head}
 use Rattle.slip.specs.Head.{Fitting, Heads}
+use Rattle.slip.proofs.Width.{width-top}
 use Rattle.slip.proofs.Bits.{all-bits-are, number-split, number-inside, number-fields, number-bits, number-symbol}
-
-pub width-top : (m : ℕ) → Width m → m ≤ 8
-width-top m (inl e) = omega arith
-width-top m (inr (inl e)) = omega arith
-width-top m (inr (inr e)) = omega arith
 
 pub fitting : (m r k count : ℕ) → Numbers m r k count → Fitting m r k count
 fitting m r k count s =

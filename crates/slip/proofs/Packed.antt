@@ -1,9 +1,8 @@
 -- Points and symbols in bytes, over the width: how a byte is packed, how a symbol is read out of its byte, and what bits the bytes of a slip have.
 -- Assumes nothing.
 use Prim.Native.Nat.{ℕ, suc, _+_, _*_, _-_, _/_, _%_, _^_, _<_, _≤_}
-use mathlib.Core.Path.{_≡_, refl, ap, sym, subst⁻¹, _∙_}
+use mathlib.Core.Path.{_≡_, refl, ap, sym, _∙_}
 use mathlib.Core.List.{List, _++_}
-use mathlib.Core.Logic.{inl, inr}
 use native.Mathlib.Nat.{zero-add, add-zero, sub-self, sub-zero, mul-zero, mul-one, mul-add, mul-assoc, mul-le-mul-left, mul-le-mul, mod-eq-of-lt, lt-of-lt-of-le}
 use native.Mathlib.Omega.{arith}
 use lib.ListN.{length, getD}
@@ -12,12 +11,8 @@ use Rattle.defs.specs.Field.{Width}
 use Rattle.defs.specs.Place.{tab, Symbols}
 use Rattle.defs.specs.Slip.{bits, allBits, numberAt, headerBits, slipBits}
 use Rattle.theory.proofs.Place.{getD-tab}
+use Rattle.slip.proofs.Width.{by-width}
 use Rattle.slip.proofs.Bits.{symbols-append, bits-are, all-bits-are, number-same, number-below, number-split, number-inside, number-front, number-behind, number-symbol}
-
-pub by-width : (P : ℕ → Type 0) → P 2 → P 4 → P 8 → (m : ℕ) → Width m → P m
-by-width P a b c m (inl e) = subst⁻¹ P e a
-by-width P a b c m (inr (inl e)) = subst⁻¹ P e b
-by-width P a b c m (inr (inr e)) = subst⁻¹ P e c
 
 -- ---- a byte packed, a symbol a turn; left of its symbols are still to come
 
