@@ -21,11 +21,25 @@ least-is p zero (suc n) h all here = rw here
 least-is p (suc i) (suc n) h all here =
     rw (all zero (omega arith)) (ap suc (least-is (λ j. p (suc j)) i n (omega arith) (λ j l. all (suc j) (omega arith)) here))
 
-pub least-none : (p : ℕ → Bool) (n : ℕ) → ((j : ℕ) → j < n → p j ≡ false) → least p n ≡ n
+cond-le : (b : Bool) (x n : ℕ) → x ≤ n → cond b 0 (suc x) ≤ suc n
+cond-le true x n l = zero-le
+cond-le false x n l = suc-le-suc l
+
+pub least-le : (p : ℕ → Bool) (n : ℕ) → least p n ≤ n
 unfolding least
-least-none p zero all = refl
-least-none p (suc n) all =
-    rw (all zero (omega arith)) (ap suc (least-none (λ j. p (suc j)) n (λ j l. all (suc j) (omega arith))))
+least-le p zero = zero-le
+least-le p (suc n) = cond-le (p 0) _ n (least-le (λ i. p (suc i)) n)
+
+-- where the test fails at every index before s, it is s or more
+pub least-max : (p : ℕ → Bool) (n s : ℕ) → s ≤ n → ((j : ℕ) → j < s → p j ≡ false) → s ≤ least p n
+unfolding least
+least-max p n zero l all = zero-le
+least-max p zero (suc s) l all = absurd (not-suc-le-zero l)
+least-max p (suc n) (suc s) l all =
+    rw (all zero (omega arith)) (suc-le-suc (least-max (λ j. p (suc j)) n s (le-of-suc-le-suc l) (λ j l′. all (suc j) (omega arith))))
+
+pub least-none : (p : ℕ → Bool) (n : ℕ) → ((j : ℕ) → j < n → p j ≡ false) → least p n ≡ n
+least-none p n all = omega (arith, least-le p n, least-max p n n (omega arith) all)
 
 -- the two ways out of a loop that looks for it
 pub found-least : (p : ℕ → Bool) (i n : ℕ) → i < n → ((j : ℕ) → j < i → p j ≡ false) → p i ≡ true → i ≡ least p n
@@ -35,15 +49,6 @@ pub none-least : (p : ℕ → Bool) (i n : ℕ) → i ≤ n → n ≤ i → ((j 
 none-least p i n h g all =
     let e : i ≡ n = omega arith in
     e ∙ sym (least-none p n (λ j l. all j (omega arith)))
-
-cond-le : (b : Bool) (x n : ℕ) → x ≤ n → cond b 0 (suc x) ≤ suc n
-cond-le true x n l = zero-le
-cond-le false x n l = suc-le-suc l
-
-pub least-le : (p : ℕ → Bool) (n : ℕ) → least p n ≤ n
-unfolding least
-least-le p zero = zero-le
-least-le p (suc n) = cond-le (p 0) _ n (least-le (λ i. p (suc i)) n)
 
 -- the test fails at every index before it
 pub least-before : (p : ℕ → Bool) (n j : ℕ) → j < least p n → p j ≡ false
