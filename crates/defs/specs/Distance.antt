@@ -31,11 +31,15 @@ depths r count u w = tab (damage r u w) count
 unfoldable pub distance : ℕ → ℕ → List ℕ → List ℕ → ℕ
 distance r count u w = total count (damage r u w)
 
--- how far a row of n symbols may be from that of the message of k symbols that it is decoded to
+-- half of what n symbols have more than k, rounded down
 unfoldable pub radius : ℕ → ℕ → ℕ
 radius n k = (n - k) / 2
+
+-- how far a row may be from that of the message that it is decoded to
+abbrev pub reach : ℕ → ℕ → List ℕ → ℕ
+reach r k points = radius (r * length points) k
 
 -- f is a message of the code whose row is within the radius of the row w
 pub record Near (m r k : ℕ) (points w f : List ℕ) : Type 0 where
   pub message : Message m k f
-  pub within : distance r (length points) (rowOf m r points f) w ≤ radius (r * length points) k
+  pub within : distance r (length points) (rowOf m r points f) w ≤ reach r k points

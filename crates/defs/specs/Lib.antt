@@ -11,3 +11,4 @@ pub mod Decode
 pub mod Slip
 pub mod Write
 pub mod Read
+pub mod Line
