@@ -7,8 +7,12 @@ ghost use Rattle.defs.specs.Field.{Width};
 ghost use Rattle.defs.specs.Place.{Symbols};
 ghost use Rattle.defs.specs.Limits.{longest, Inside, codeVerdict};
 ghost use Rattle.defs.specs.Slip.{allBits, numberAt, headerBits, slipSize, slipBits, slipOf, widthIn, symbolsIn};
-ghost use Rattle.defs.specs.Write.{front};
+ghost use Rattle.defs.specs.Write.{front, writeVerdict, Written};
 ghost use Rattle.slip.specs.Head.{Fitting, Heads};
+
+use defs::Answer;
+use defs::Refusal;
+use defs::Verdict;
 
 // The bytes of a slip with so many points and symbols in all.
 fn slip_size(m: usize, symbols: usize) -> usize
@@ -85,6 +89,37 @@ fn fill_slip(m: usize, r: usize, k: usize, points: &[u8], row: &[u8], size: usiz
         bytes[i] = slip_byte(m, r, k, points, row, i);
         i += 1;
     }
+}
+
+// The checks of the writer. size is the length of its byte buffer.
+fn check_write(m: usize, r: usize, k: usize, points: &[u8], row: &[u8], size: usize) -> Verdict
+    ensures { λ v. ⌜ v ≡ writeVerdict m r k (now (points .entry)) (now (row .entry)) size ⌝ }
+{
+    let checked = code::check_code(m, r, k, points);
+    let v = checked.verdict;
+    if let Verdict::Refused(x) = v {
+        return Verdict::Refused(x);
+    }
+    if row.len() != r * points.len() {
+        return Verdict::Refused(Refusal::Length);
+    }
+    if size < slip_size(m, points.len() + row.len()) {
+        return Verdict::Refused(Refusal::Length);
+    }
+    code::check_symbols(m, row)
+}
+
+// Writes a code and a row as a slip. Done with the slip's size.
+pub fn slip_write(m: usize, r: usize, k: usize, points: &[u8], row: &[u8], bytes: &mut [u8]) -> Answer
+    ensures { λ a. ⌜ Written m r k (now (points .entry)) (now (row .entry)) (now (bytes .entry)) a (now (bytes .exit)) ⌝ }
+{
+    let v = check_write(m, r, k, points, row, bytes.len());
+    if let Verdict::Refused(x) = v {
+        return Answer::Refused(x);
+    }
+    let size = slip_size(m, points.len() + row.len());
+    fill_slip(m, r, k, points, row, size, bytes);
+    Answer::Done(size)
 }
 
 // What the header of a slip says.
