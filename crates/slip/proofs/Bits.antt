@@ -87,9 +87,12 @@ number-bits (suc w) x =
 pub number-field : (w x : ℕ) (t : List ℕ) → numberAt w 0 (bits w x ++ t) ≡ x % 2 ^ w
 number-field w x t = number-front w 0 (bits w x) t (omega (arith, length-bits w x)) ∙ number-bits w x
 
+pub number-past : (v p w x : ℕ) (t : List ℕ) → numberAt v (w + p) (bits w x ++ t) ≡ numberAt v p t
+number-past v p w x t = number-behind v p w (bits w x) t (length-bits w x)
+
 pub number-fields : (w v x : ℕ) (t : List ℕ) → numberAt (w + v) 0 (bits w x ++ t) ≡ x % 2 ^ w * 2 ^ v + numberAt v 0 t
 number-fields w v x t =
-    rw (number-split, number-field, ← number-behind v 0 w (bits w x) t (length-bits w x)) (ap (λ (p : ℕ). x % 2 ^ w * 2 ^ v + numberAt v p (bits w x ++ t)) (omega arith))
+    rw (number-split, number-field, ← number-past v 0 w x t) (ap (λ (p : ℕ). x % 2 ^ w * 2 ^ v + numberAt v p (bits w x ++ t)) (omega arith))
 
 number-nil : (w p : ℕ) → numberAt w p [] ≡ 0
 unfolding numberAt
@@ -102,4 +105,4 @@ unfolding allBits
 number-symbol w [] j = rw zero-mod (number-nil w (w * j))
 number-symbol w (x ∷ s) zero = rw mul-zero (number-field w x (allBits w s))
 number-symbol w (x ∷ s) (suc j) = 
-    rw (mul-suc, add-comm, number-behind w (w * j) w (bits w x) (allBits w s) (length-bits w x)) (number-symbol w s j)
+    rw (mul-suc, add-comm, number-past w (w * j) w x (allBits w s)) (number-symbol w s j)

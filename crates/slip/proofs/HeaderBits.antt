@@ -9,14 +9,15 @@ use native.Mathlib.Omega.{arith}
 use lib.Dec.{lit<, lit≤}
 use lib.ListN.{length, getD}
 use lib.Pow.{shl-exact, pow-mono}
+use Rattle.defs.specs.Field.{Width}
 use Rattle.defs.specs.Place.{Symbols}
 use Rattle.defs.specs.Slip.{bits, allBits, numberAt, headerBits, editionIn, widthIn, depthIn, countIn, dimensionIn}
 use Rattle.theory.specs.Limits.{Numbers}
 use Rattle.theory.proofs.Limits.{count-small}
 use Rattle.slip.specs.declared.Head.{Head}
 use Rattle.slip.specs.Head.{Fitting, Heads}
-use Rattle.slip.proofs.Width.{width-top}
-use Rattle.slip.proofs.Bits.{all-bits-are, number-split, number-inside, number-fields, number-bits, number-symbol}
+use Rattle.slip.proofs.Width.{by-width, width-top}
+use Rattle.slip.proofs.Bits.{all-bits-are, number-split, number-inside, number-fields, number-field, number-past, number-bits, number-symbol}
 
 pub fitting : (m r k count : ℕ) → Numbers m r k count → Fitting m r k count
 fitting m r k count s =
@@ -37,6 +38,30 @@ unfolding headerBits
 header-number m r k count s =
     rw (number-fields 4 20 1, number-fields 2 18 (m / 4), number-fields 3 15 (r - 1), number-fields 7 8 (count - 1), number-fields 7 1 (k - 1), number-bits 1 0)
     (omega arith)
+
+-- and each of these alone
+module _ (m r k count : ℕ) where
+  pub header-edition : numberAt 4 0 (headerBits m r k count) ≡ 1
+  unfolding headerBits
+  header-edition = number-field 4 1 _
+
+  pub header-width : Width m → 2 ^ (numberAt 2 4 (headerBits m r k count) + 1) ≡ m
+  unfolding headerBits
+  header-width w = rw (number-past 2 0 4 1, number-field 2 (m / 4)) (by-width (λ v. 2 ^ (v / 4 % 4 + 1) ≡ v) refl refl refl m w)
+
+  module _ (s : Fitting m r k count) where
+    pub header-depth : numberAt 3 6 (headerBits m r k count) + 1 ≡ r
+    unfolding headerBits
+    header-depth = rw (number-past 3 2 4 1, number-past 3 0 2 (m / 4), number-field 3 (r - 1)) (omega arith)
+
+    pub header-count : numberAt 7 9 (headerBits m r k count) + 1 ≡ count
+    unfolding headerBits
+    header-count = rw (number-past 7 5 4 1, number-past 7 3 2 (m / 4), number-past 7 0 3 (r - 1), number-field 7 (count - 1)) (omega arith)
+
+    pub header-dimension : numberAt 7 16 (headerBits m r k count) + 1 ≡ k
+    unfolding headerBits
+    header-dimension =
+        rw (number-past 7 12 4 1, number-past 7 10 2 (m / 4), number-past 7 7 3 (r - 1), number-past 7 0 7 (count - 1), number-field 7 (k - 1)) (omega arith)
 
 -- read: three bytes
 pub head-number : (bytes : List ℕ) → Symbols 8 bytes → (getD bytes 0 0 * 256 + getD bytes 1 0) * 256 + getD bytes 2 0 ≡ numberAt 24 0 (allBits 8 bytes)

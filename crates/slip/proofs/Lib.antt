@@ -6,3 +6,5 @@ pub mod Packed
 pub mod Front
 pub mod Writer
 pub mod Reader
+pub mod RoundTrip
+pub mod Outcome
