@@ -3,12 +3,12 @@
 use Prim.Native.Nat.{ℕ, zero, suc, _+_, _*_, _-_, _/_, _%_, _^_, _<_, _≤_}
 use mathlib.Core.Path.{_≡_, refl, ap, sym, _∙_}
 use mathlib.Core.List.{List, [], _∷_, _++_}
-use native.Mathlib.Nat.{zero-add, add-zero, suc-add, add-suc, add-comm, add-assoc, zero-mul, mul-zero, mul-suc, add-mul, mul-assoc, mul-le-mul-right, one-mul, zero-mod, mod-one, mod-lt, pow-suc}
+use native.Mathlib.Nat.{zero-add, add-zero, suc-add, add-suc, add-comm, add-assoc, zero-mul, mul-zero, mul-suc, add-mul, mul-assoc, mul-le-mul-right, zero-mod, mod-one, mod-lt, pow-suc}
 use native.Mathlib.Numerals.{one-add}
 use native.Mathlib.Omega.{arith}
 use lib.Dec.{lit<}
 use lib.ListN.{length, getD, List·getD-append}
-use lib.Pow.{pow-pos, pow-add, mod-pow-add, high, low}
+use lib.Pow.{pow-add, mod-pow-add, high, low}
 use lib.Seq.{getD-append-add}
 use Rattle.defs.specs.Place.{Symbols}
 use Rattle.defs.specs.Slip.{bits, allBits, numberAt}
@@ -104,5 +104,5 @@ pub number-symbol : (w : ℕ) (s : List ℕ) (j : ℕ) → numberAt w (w * j) (a
 unfolding allBits
 number-symbol w [] j = rw zero-mod (number-nil w (w * j))
 number-symbol w (x ∷ s) zero = rw mul-zero (number-field w x (allBits w s))
-number-symbol w (x ∷ s) (suc j) = 
+number-symbol w (x ∷ s) (suc j) =
     rw (mul-suc, add-comm, number-past w (w * j) w x (allBits w s)) (number-symbol w s j)

@@ -1,12 +1,10 @@
 -- What the loops that write a slip, and symbols that are read, leave in a buffer.
 -- Assumes nothing.
-use Prim.Native.Nat.{ℕ, _+_, _*_, _≤_}
-use mathlib.Core.Path.{_≡_, sym, _∙_}
+use Prim.Native.Nat.{ℕ, _+_, _*_}
+use mathlib.Core.Path.{_≡_, _∙_}
 use mathlib.Core.List.{List}
 use lib.ListN.{length}
-use Rattle.defs.specs.Field.{Width}
-use Rattle.defs.specs.Place.{tab, Symbols}
-use Rattle.defs.specs.Limits.{Inside}
+use Rattle.defs.specs.Place.{tab}
 use Rattle.defs.specs.Slip.{allBits, numberAt, slipSize, slipBits, slipOf, widthIn, symbolsIn}
 use Rattle.defs.specs.Write.{front}
 use Rattle.theory.specs.Fill.{filled}

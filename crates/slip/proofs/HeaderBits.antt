@@ -1,20 +1,19 @@
 -- The header of a slip: the number that its 24 bits make, written and read.
 -- Assumes nothing.
-use Prim.Native.Nat.{ℕ, _+_, _*_, _-_, _/_, _%_, _^_, _<_, _≤_}
-use mathlib.Core.Path.{_≡_, refl, ap, sym, _∙_}
+use Prim.Native.Nat.{ℕ, _+_, _*_, _-_, _/_, _%_, _^_, _<_}
+use mathlib.Core.Path.{_≡_, refl, _∙_}
 use mathlib.Core.List.{List}
-use native.Mathlib.Nat.{zero-add, mod-eq-of-lt, pow-succ'}
+use native.Mathlib.Nat.{zero-add, pow-succ'}
 use native.Mathlib.Numerals.{add-one}
 use native.Mathlib.Omega.{arith}
-use lib.Dec.{lit<, lit≤}
-use lib.ListN.{length, getD}
-use lib.Pow.{shl-exact, pow-mono}
+use lib.Dec.{lit<}
+use lib.ListN.{getD}
+use lib.Pow.{shl-exact}
 use Rattle.defs.specs.Field.{Width}
 use Rattle.defs.specs.Place.{Symbols}
-use Rattle.defs.specs.Slip.{bits, allBits, numberAt, headerBits, editionIn, widthIn, depthIn, countIn, dimensionIn}
+use Rattle.defs.specs.Slip.{allBits, numberAt, headerBits, editionIn, widthIn, depthIn, countIn, dimensionIn}
 use Rattle.theory.specs.Limits.{Numbers}
 use Rattle.theory.proofs.Limits.{count-small}
-use Rattle.slip.specs.declared.Head.{Head}
 use Rattle.slip.specs.Head.{Fitting, Heads}
 use Rattle.slip.proofs.Width.{by-width, width-top}
 use Rattle.slip.proofs.Bits.{all-bits-are, number-split, number-inside, number-fields, number-field, number-past, number-bits, number-symbol}

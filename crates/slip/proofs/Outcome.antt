@@ -5,19 +5,19 @@ use mathlib.Core.Bool.{Bool, true, false, _||_, not}
 use mathlib.Core.Path.{_≡_, refl, ap, sym, _∙_}
 use mathlib.Core.List.{List}
 use native.Mathlib.Omega.{arith}
-use lib.Dec.{eqb, ltb}
+use lib.Dec.{eqb}
 use lib.ListN.{length}
 use borrow.Author.Tests.{ne-eqb, le-ltb}
 use Rattle.defs.specs.Refusal.{numberOf, number, refuse, andThen, answer, kept}
 use Rattle.defs.specs.Limits.{deepest, numbersVerdict}
-use Rattle.defs.specs.Slip.{allBits, slipOf, slipSize, widthIn, depthIn, countIn, dimensionIn}
-use Rattle.defs.specs.Write.{front, writeVerdict, Written}
+use Rattle.defs.specs.Slip.{allBits, slipOf, depthIn}
+use Rattle.defs.specs.Write.{writeVerdict, Written}
 use Rattle.defs.specs.Read.{headVerdict, readVerdict, reading, Read}
 use Rattle.defs.specs.declared.Refusal.{Refusal}
 use Rattle.defs.specs.declared.Verdict.{Verdict}
 use Rattle.defs.specs.declared.Verdict.the-variants.{Fine, Refused}
 use Rattle.defs.specs.declared.Answer.{Answer}
-use Rattle.defs.specs.declared.Answer.the-variants.{Done, Refused as No}
+use Rattle.defs.specs.declared.Answer.the-variants.{Refused as No}
 use Rattle.defs.specs.declared.SlipRead.{SlipRead}
 use Rattle.slip.proofs.Bits.{all-bits-are, number-below}
 use Rattle.slip.proofs.Writer.{inside-width, writable, few, size-top}

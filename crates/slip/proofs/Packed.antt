@@ -1,9 +1,9 @@
 -- Points and symbols in bytes, over the width: how a byte is packed, how a symbol is read out of its byte, and what bits the bytes of a slip have.
 -- Assumes nothing.
-use Prim.Native.Nat.{ℕ, suc, _+_, _*_, _-_, _/_, _%_, _^_, _<_, _≤_}
-use mathlib.Core.Path.{_≡_, refl, ap, sym, _∙_}
+use Prim.Native.Nat.{ℕ, _+_, _*_, _-_, _/_, _%_, _^_, _<_, _≤_}
+use mathlib.Core.Path.{_≡_, refl, sym, _∙_}
 use mathlib.Core.List.{List, _++_}
-use native.Mathlib.Nat.{zero-add, add-zero, sub-self, sub-zero, mul-zero, mul-one, mul-add, mul-assoc, mul-le-mul-left, mul-le-mul, mod-eq-of-lt, lt-of-lt-of-le}
+use native.Mathlib.Nat.{zero-add, sub-self, sub-zero, mul-zero, mul-one, mul-add, mul-assoc, mul-le-mul-left, mod-eq-of-lt, lt-of-lt-of-le}
 use native.Mathlib.Omega.{arith}
 use lib.ListN.{length, getD}
 use lib.Pow.{pow-mono}
@@ -73,7 +73,7 @@ bit-back n p s h l =
     let e : p % 8 + (1 + (7 - p % 8)) ≡ 8 = omega arith in
     let f : 8 * q + p % 8 ≡ p = omega arith in
     let byte : numberAt 8 (8 * q) (allBits 8 bytes) ≡ numberAt 8 (8 * q) s =
-        number-symbol 8 bytes q ∙ rw (getD-tab (λ i. numberAt 8 (8 * i) s) n q (omega arith)) (mod-eq-of-lt (number-below 8 (8 * q) s h)) in
+    number-symbol 8 bytes q ∙ rw (getD-tab (λ i. numberAt 8 (8 * i) s) n q (omega arith)) (mod-eq-of-lt (number-below 8 (8 * q) s h)) in
     let there = number-inside (p % 8) 1 (7 - p % 8) 8 (8 * q) (allBits 8 bytes) e (all-bits-are 8 bytes) in
     let here = number-inside (p % 8) 1 (7 - p % 8) 8 (8 * q) s e h in
     sym (number-one p (allBits 8 bytes)) ∙ (rw f at (sym there)) ∙ rw byte (rw f at here) ∙ number-one p s

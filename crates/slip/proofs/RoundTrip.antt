@@ -8,12 +8,12 @@ use native.Mathlib.Omega.{arith}
 use lib.ListN.{length, getD, take, drop, List·getD-append}
 use lib.Seq.{getD-append-add, take-at}
 use borrow.Author.Tests.{ltb-false}
-use Rattle.defs.specs.Place.{tab, Symbols}
+use Rattle.defs.specs.Place.{Symbols}
 use Rattle.defs.specs.Refusal.{answer, kept}
 use Rattle.defs.specs.Limits.{numbersVerdict, firstTwice, codeVerdict, Inside}
 use Rattle.defs.specs.Slip.{allBits, numberAt, headerBits, slipSize, slipBits, slipOf, editionIn, widthIn, depthIn, countIn, dimensionIn, symbolsIn, pointsIn, rowIn}
 use Rattle.defs.specs.Write.{front, writeVerdict, Written}
-use Rattle.defs.specs.Read.{headVerdict, readVerdict, reading, Read}
+use Rattle.defs.specs.Read.{headVerdict, readVerdict, Read}
 use Rattle.defs.specs.declared.Verdict.{Verdict}
 use Rattle.defs.specs.declared.Verdict.the-variants.{Fine, Refused}
 use Rattle.defs.specs.declared.Answer.the-variants.{Done}
@@ -116,10 +116,11 @@ module _ (m r k : ℕ) (points w : List ℕ) where
           → (s ≡ record { answer = Done 0; m = m; r = r; count = length points; k = k }) × (points₁ ≡ front points points₀) × (row₁ ≡ front w row₀)
       unfolding head kept
       slip-read-back points₀ row₀ a b s points₁ row₁ t =
-          let v = verdict-back points₀ row₀ a b in
-          (rw v at (t .answers) ∙ sym (reading-done (slipOf m r k points w) head heads-back),
-          rw (v, points-back) at (t .leaves-points),
-          rw (v, row-back) at (t .leaves-row))
+          let v = verdict-back points₀ row₀ a b in (
+            rw v at (t .answers) ∙ sym (reading-done (slipOf m r k points w) head heads-back),
+            rw (v, points-back) at (t .leaves-points),
+            rw (v, row-back) at (t .leaves-row),
+          )
 
 done-fine : (v : Verdict) (n d : ℕ) → Done d ≡ answer v n → v ≡ Fine
 unfolding answer

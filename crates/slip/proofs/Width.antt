@@ -1,7 +1,7 @@
 -- The three widths: what is shown of each is shown of all.
 -- Assumes nothing.
 use Prim.Native.Nat.{ℕ, _^_, _<_, _≤_}
-use mathlib.Core.Path.{_≡_, subst⁻¹}
+use mathlib.Core.Path.{subst⁻¹}
 use mathlib.Core.Logic.{inl, inr}
 use lib.Dec.{lit≤, lit<}
 use lib.Pow.{pow-mono}

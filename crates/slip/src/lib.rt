@@ -10,7 +10,6 @@ ghost use Rattle.defs.specs.Slip.{allBits, numberAt, headerBits, slipSize, slip
 ghost use Rattle.defs.specs.Write.{front, writeVerdict, Written};
 ghost use Rattle.defs.specs.Read.{headVerdict, reading, Read};
 ghost use Rattle.slip.specs.Head.{Fitting, Heads, Holds};
-
 use defs::Answer;
 use defs::LONGEST;
 use defs::Refusal;
@@ -113,7 +112,14 @@ fn check_write(m: usize, r: usize, k: usize, points: &[u8], row: &[u8], size: us
 }
 
 // Writes a code and a row as a slip. Done with the slip's size.
-pub fn slip_write(m: usize, r: usize, k: usize, points: &[u8], row: &[u8], bytes: &mut [u8]) -> Answer
+pub fn slip_write(
+    m: usize,
+    r: usize,
+    k: usize,
+    points: &[u8],
+    row: &[u8],
+    bytes: &mut [u8],
+) -> Answer
     ensures { λ a. ⌜ Written m r k (now (points .entry)) (now (row .entry)) (now (bytes .entry)) a (now (bytes .exit)) ⌝ }
 {
     let v = check_write(m, r, k, points, row, bytes.len());
