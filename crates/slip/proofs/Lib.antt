@@ -8,3 +8,5 @@ pub mod Writer
 pub mod Reader
 pub mod RoundTrip
 pub mod Outcome
+pub mod Enough
+pub mod Worked

@@ -24,6 +24,7 @@ fn slip_size(m: usize, symbols: usize) -> usize
     3 + (symbols * m + 7) / 8
 }
 
+// A byte as a word.
 fn wide(x: u8) -> usize
     ensures { λ r. ⌜ (r ≡ x) × (r < 256) ⌝ }
 {
