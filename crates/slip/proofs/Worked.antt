@@ -1,4 +1,4 @@
--- The slip worked by hand in the scope: the row of example 16 in six bytes.
+-- A slip worked by hand: the row of example 16 of the paper in six bytes.
 -- Assumes nothing.
 use Prim.Native.Nat.{ℕ}
 use mathlib.Core.Path.{_≡_, refl}
