@@ -1,19 +1,18 @@
 -- Theorem 6 of the paper, with a depth for each chunk: how deep the rows of two different messages agree, and that the bound is attained.
 -- Assumes nothing.
 use Prim.Native.Nat.{ℕ, zero, suc, _+_, _-_, _^_, _<_, _≤_, min}
-use mathlib.Core.Path.{_≡_, refl, ap, sym, _∙_}
+use mathlib.Core.Path.{_≡_, sym, _∙_}
 use mathlib.Core.List.{List}
 use native.Mathlib.Nat.{le-of-eq}
 use native.Mathlib.Decide.{decLt}
 use native.Mathlib.Omega.{arith}
-use lib.ListN.{getD}
 use Rattle.defs.specs.Field.{Width, add}
 use Rattle.defs.specs.Place.{total, Symbols}
 use Rattle.defs.specs.Distance.{agree}
 use Rattle.defs.specs.Pair.{Zero}
 use Rattle.theory.specs.Limits.{Distinct}
-use Rattle.theory.specs.Poly.{h, padd, product}
-use Rattle.theory.specs.Vanish.{Deg, Same, Roots, Monic}
+use Rattle.theory.specs.Poly.{padd, product}
+use Rattle.theory.specs.Vanish.{Deg, Same, Monic}
 use Rattle.theory.specs.Chunks.{agreement, apart, rowAt}
 use Rattle.theory.proofs.Field.{add-self}
 use Rattle.theory.proofs.Generator.{one-lt}
@@ -34,7 +33,7 @@ unfolding total greedy
 total-greedy r N zero = omega arith
 total-greedy r N (suc n) = omega (arith, total-greedy r N n)
 
-module _ (m : ℕ) (width : Width m) (P r : ℕ → ℕ) (n : ℕ) (low : (i : ℕ) → i < n → P i < 2 ^ m) (ne : Distinct n P) where
+module _ (m : ℕ) (width : Width m) (P r : ℕ → ℕ) (n : ℕ) (low : (i : ℕ) → P i < 2 ^ m) (ne : Distinct n P) where
   abbrev row : List ℕ → ℕ → ℕ → ℕ
   row = rowAt m P
 
@@ -64,21 +63,20 @@ module _ (m : ℕ) (width : Width m) (P r : ℕ → ℕ) (n : ℕ) (low : (i : �
         agree-same
         (omega (arith, apart-agreement n r (row f) (row g), apart-triangle n r (row f) W (row g), apart-sym n r W (row g)))
 
-  -- some polynomial of degree N has a row that agrees with that of 0 to a total depth of exactly N
   module _ (N : ℕ) (fits : N ≤ total n r) where
-    pub sharpest : List ℕ
+    sharpest : List ℕ
     sharpest = product m P (greedy r N) n
 
     depth : total n (greedy r N) ≡ N
     depth = omega (arith, total-greedy r N n)
 
-    pub sharpest-monic : Monic N sharpest
+    monic : Monic N sharpest
     unfolding sharpest
-    sharpest-monic = rw depth at (product-monic m P (greedy r N) n)
+    monic = rw depth at (product-monic m P (greedy r N) n)
 
-    pub sharpest-symbols : Symbols m sharpest
+    symbols : Symbols m sharpest
     unfolding sharpest
-    sharpest-symbols = product-symbols m P (greedy r N) n (one-lt m width)
+    symbols = product-symbols m P (greedy r N) n (one-lt m width)
 
     at-least : (g : List ℕ) → Zero g → total n (greedy r N) ≤ agreement n r (row sharpest) (row g)
     unfolding agreement sharpest greedy
@@ -86,12 +84,16 @@ module _ (m : ℕ) (width : Width m) (P r : ℕ → ℕ) (n : ℕ) (low : (i : �
         total-mono n _ _
         (λ i l. agree-max (r i) _ _ _ (omega arith) (λ j l′. product-roots m P (greedy r N) n i l j l′ ∙ sym (h-zero m (P i) j g z)))
 
-    pub sharp : (g : List ℕ) → Symbols m g → Zero g → agreement n r (row sharpest) (row g) ≡ N
-    sharp g o z =
+    exactly : (g : List ℕ) → Symbols m g → Zero g → agreement n r (row sharpest) (row g) ≡ N
+    exactly g o z =
         omega (
           arith,
           depth,
           at-least g z,
-          agree-less (suc N) sharpest g sharpest-symbols o (deg-length (suc N) sharpest (le-of-eq (sharpest-monic .size))) (λ i l. z i)
-          (λ e. omega (arith, sharpest-monic .top, e N, z N)),
+          agree-less (suc N) sharpest g symbols o (deg-length (suc N) sharpest (le-of-eq (monic .size))) (λ i l. z i)
+              (λ e. omega (arith, monic .top, e N, z N)),
         )
+
+    -- some polynomial of degree N has a row that agrees with that of 0 to a total depth of exactly N
+    pub sharp : (f : List ℕ) × Symbols m f × Monic N f × ((g : List ℕ) → Symbols m g → Zero g → agreement n r (row f) (row g) ≡ N)
+    sharp = (sharpest, symbols, monic, exactly)

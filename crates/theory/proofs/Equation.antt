@@ -1,7 +1,7 @@
 -- The key equation with a depth for each chunk: a row near that of a message has a solution, and in every solution Q₀ is f·Q₁.
 -- Assumes nothing.
-use Prim.Native.Nat.{ℕ, zero, suc, _+_, _-_, _^_, _<_, _≤_}
-use mathlib.Core.Path.{_≡_, refl, ap, sym, _∙_}
+use Prim.Native.Nat.{ℕ, suc, _+_, _-_, _^_, _<_, _≤_}
+use mathlib.Core.Path.{_≡_, ap, sym, _∙_}
 use mathlib.Core.List.{List}
 use native.Mathlib.Nat.{le-of-eq}
 use native.Mathlib.Decide.{decLt}
@@ -11,7 +11,7 @@ use Rattle.defs.specs.Place.{total, Symbols}
 use Rattle.defs.specs.Distance.{agree}
 use Rattle.defs.specs.Pair.{Zero}
 use Rattle.theory.specs.Limits.{Distinct}
-use Rattle.theory.specs.Poly.{h, padd, pmul, product}
+use Rattle.theory.specs.Poly.{h, pmul, product}
 use Rattle.theory.specs.Vanish.{Deg, Same}
 use Rattle.theory.specs.Chunks.{agreement, apart, rowAt}
 use Rattle.theory.specs.Key.{conv, Key, Solution}
@@ -65,19 +65,19 @@ module _ (m : ℕ) (width : Width m) (P r : ℕ → ℕ) (n : ℕ) (w : ℕ → 
         → (Q₀ : List ℕ) × (Q₁ : List ℕ) × Solution m P r n k t w Q₀ Q₁ × (Zero Q₁ → ⊥)
     unfolding apart agreed damaged locator
     near-exists k t d near = (
-          pmul m f locator,
-          locator,
-          record {
-            symbols₀ = pmul-symbols m f locator;
-            symbols₁ = product-symbols m P damaged n (one-lt m width);
-            deg₀ = λ i l. pmul-deg m k (total n damaged) f locator d locator-deg i (omega arith);
-            deg₁ = λ i l. locator-deg i (omega arith);
-            key = locate;
-          },
-          locator-ne,
-        )
+      pmul m f locator,
+      locator,
+      record {
+        symbols₀ = pmul-symbols m f locator;
+        symbols₁ = product-symbols m P damaged n (one-lt m width);
+        deg₀ = λ i l. pmul-deg m k (total n damaged) f locator d locator-deg i (omega arith);
+        deg₁ = λ i l. locator-deg i (omega arith);
+        key = locate;
+      },
+      locator-ne,
+    )
 
-  module _ (low : (i : ℕ) → i < n → P i < 2 ^ m) (ne : Distinct n P) (Q₀ Q₁ : List ℕ) where
+  module _ (low : (i : ℕ) → P i < 2 ^ m) (ne : Distinct n P) (Q₀ Q₁ : List ℕ) where
     -- and in every solution Q₀ is f·Q₁, because the other zeros of Q₀ + f·Q₁ are more than its degree
     pub near-decodes : (k t : ℕ) (f : List ℕ) → Symbols m f → Deg k f → apart n r (rowAt m P f) w ≤ t → t + t + k ≤ total n r
         → Solution m P r n k t w Q₀ Q₁ → Same Q₀ (pmul m f Q₁)

@@ -1,5 +1,4 @@
 -- The laws of add and mul, at every m.
--- Assumes nothing.
 use mathlib.Core.Path.{_≡_, refl, sym, ap, ap₂, _∙_}
 use Prim.Native.Nat.{ℕ, zero, suc, _+_, _*_, _/_, _%_, _^_, _≤_, _<_}
 use native.Mathlib.Nat.{not-suc-le-zero, le-of-suc-le-suc, mod-lt, mod-mod, mod-eq-of-lt, zero-mul, one-mul, zero-lt-suc, mul-one, mul-mod-left, mul-div-cancel, mul-right-comm, suc-add, mod-one, add-zero, zero-add, pow-suc, div-eq-of-lt}
@@ -214,7 +213,7 @@ module _ (m : ℕ) where
       ∙ sym (respects (times2 m) times2-add (λ x. refl) m (a % 2 ^ m) b)
 
   -- 2 ^ i is x ^ i
-  times2-pow : (i : ℕ) → suc i < m → times2 m (2 ^ i) ≡ 2 ^ suc i
+  pub times2-pow : (i : ℕ) → suc i < m → times2 m (2 ^ i) ≡ 2 ^ suc i
   unfolding times2
   times2-pow i h =
       ap (λ (x : ℕ). add x (x / 2 ^ m % 2 * modulus m) % 2 ^ m) (sym (pow-suc 2 i))
@@ -248,9 +247,6 @@ module _ (m : ℕ) where
       ap (λ (x : ℕ). mulBits m m x b) (sym (one-mul-mod a) ∙ sym (mul-mod-l 1 a))
       ∙ sym (respects (λ x. mul m x a) (λ x y. mul-add-l x y a) (λ x. mul-times2-l x a) m (1 % 2 ^ m) b)
       ∙ ap (λ (x : ℕ). mul m x a) (one-mul-mod b) ∙ mul-mod-l b a
-
-  pub mul-mod-r : (a b : ℕ) → mul m a (b % 2 ^ m) ≡ mul m a b
-  mul-mod-r a b = mul-comm a (b % 2 ^ m) ∙ mul-mod-l b a ∙ mul-comm b a
 
   -- (a b) c = (a c) b
   right-comm : (a b c : ℕ) → mul m (mul m a b) c ≡ mul m (mul m a c) b
