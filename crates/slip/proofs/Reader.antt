@@ -8,10 +8,10 @@ use native.Mathlib.Omega.{arith}
 use lib.Dec.{ltb}
 use lib.ListN.{length, take, drop}
 use lib.Seq.{take-at}
-use borrow.Author.Tests.{lt-ltb, le-ltb, eq-eqb, ne-eqb, ltb-false, eqb-true, not-false}
+use borrow.Author.Tests.{lt-ltb, le-ltb, eq-eqb, ne-eqb, ltb-false}
 use Rattle.defs.specs.Refusal.{refuse, andThen, kept}
 use Rattle.defs.specs.Limits.{longest, numbersVerdict, firstTwice}
-use Rattle.defs.specs.Slip.{slipSize, editionIn, widthIn, depthIn, countIn, dimensionIn, sizeIn, symbolsIn, pointsIn, rowIn}
+use Rattle.defs.specs.Slip.{slipSize, widthIn, depthIn, countIn, dimensionIn, sizeIn, symbolsIn, pointsIn, rowIn}
 use Rattle.defs.specs.Write.{front}
 use Rattle.defs.specs.Read.{headVerdict, readVerdict, reading, Read}
 use Rattle.defs.specs.declared.Refusal.{Refusal}
@@ -69,7 +69,6 @@ module _ (bytes : List ℕ) where
 -- what they show of the bytes
 pub record Sound (bytes : List ℕ) : Type 0 where
   pub long : 3 ≤ length bytes
-  pub edition : editionIn bytes ≡ 1
   pub numbers : Numbers (widthIn bytes) (depthIn bytes) (dimensionIn bytes) (countIn bytes)
   pub size : length bytes ≡ sizeIn bytes
 
@@ -83,7 +82,6 @@ sound bytes e =
     let e5 = refuse-fine _ _ _ (e4 .1) in
     record {
       long = ltb-false (length bytes) 3 (e1 .0);
-      edition = eqb-true _ _ (not-false _ (e2 .0));
       numbers = numbers-known _ _ _ _ (e3 .0);
       size = omega (arith, ltb-false (length bytes) (sizeIn bytes) (e4 .0), ltb-false (sizeIn bytes) (length bytes) (e5 .0));
     }

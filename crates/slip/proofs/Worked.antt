@@ -1,8 +1,7 @@
 -- A slip worked by hand: the row of example 16 of the paper in six bytes.
 -- Assumes nothing.
-use Prim.Native.Nat.{ℕ}
 use mathlib.Core.Path.{_≡_, refl}
-use mathlib.Core.List.{List, [], _∷_}
+use mathlib.Core.List.{[], _∷_}
 use Rattle.defs.specs.Place.{tab}
 use Rattle.defs.specs.Slip.{bits, allBits, numberAt, headerBits, slipSize, slipBits, slipOf}
 
