@@ -15,7 +15,7 @@ two-pos : zero < 2
 two-pos = zero-lt-suc 1
 
 -- what holds of 0 and of 1 holds of a bit
-bit : (P : ℕ → Type 0) → P 0 → P 1 → (n : ℕ) → P (n % 2)
+pub bit : (P : ℕ → Type 0) → P 0 → P 1 → (n : ℕ) → P (n % 2)
 bit P p q n = go (n % 2) (mod-lt n two-pos)
   where
     go : (x : ℕ) → x < 2 → P x

@@ -1,0 +1,7 @@
+-- The theory's own definitions, which no contract cites.
+pub mod Fill
+pub mod Limits
+pub mod Poly
+pub mod Vanish
+pub mod Chunks
+pub mod Key
