@@ -1,0 +1,173 @@
+// The line that slipread prints, from the bytes of a slip.
+ghost use mathlib.Core.Path.{_≡_};
+ghost use mathlib.Core.List.{[], _∷_, _++_};
+ghost use Prim.Native.Nat.{_+_, _<_, _≤_};
+ghost use lib.ListN.{length};
+ghost use Rattle.defs.specs.Refusal.{number, detail, numberOf, placeOf};
+ghost use Rattle.defs.specs.Write.{front};
+ghost use Rattle.defs.specs.Line.{decimal, spaced, listed, heading, refusedLine, doneLine};
+ghost use Rattle.line.specs.Text.{Wrote, Handed};
+use defs::Answer;
+use defs::Refusal;
+
+// One byte.
+fn put(text: &mut [u8], at: usize, byte: u8) -> usize
+    requires { ⌜ at < length (now text) ⌝ }
+    ensures { λ end. ⌜ Wrote (now (text .entry)) at (byte ∷ []) (now (text .exit)) end ⌝ }
+{
+    text[at] = byte;
+    at + 1
+}
+
+// A number, without leading zeros.
+fn put_number(text: &mut [u8], at: usize, x: usize) -> usize
+    requires { ⌜ at + length (decimal x) ≤ length (now text) ⌝ }
+    ensures { λ end. ⌜ Wrote (now (text .entry)) at (decimal x) (now (text .exit)) end ⌝ }
+{
+    if x < 10 {
+        return put(text, at, 48 + x as u8);
+    }
+    let last = put_number(text, at, x / 10);
+    put(text, last, 48 + (x % 10) as u8)
+}
+
+// A number behind a space.
+fn put_spaced(text: &mut [u8], at: usize, x: usize) -> usize
+    requires { ⌜ at + length (32 ∷ decimal x) ≤ length (now text) ⌝ }
+    ensures { λ end. ⌜ Wrote (now (text .entry)) at (32 ∷ decimal x) (now (text .exit)) end ⌝ }
+{
+    let next = put(text, at, b' ');
+    put_number(text, next, x)
+}
+
+// Each number behind a space.
+fn put_all(text: &mut [u8], at: usize, s: &[u8]) -> usize
+    requires { ⌜ at + length (spaced (now s)) ≤ length (now text) ⌝ }
+    ensures { λ end. ⌜ Wrote (now (text .entry)) at (spaced (now (s .entry))) (now (text .exit)) end ⌝ }
+{
+    let mut end = at;
+    let mut i = 0;
+    while i < s.len() {
+        end = put_spaced(text, end, s[i] as usize);
+        i += 1;
+    }
+    end
+}
+
+// A bar and each number, all behind a space.
+fn put_list(text: &mut [u8], at: usize, s: &[u8]) -> usize
+    requires { ⌜ at + length (listed (now s)) ≤ length (now text) ⌝ }
+    ensures { λ end. ⌜ Wrote (now (text .entry)) at (listed (now (s .entry))) (now (text .exit)) end ⌝ }
+{
+    let behind = put(text, at, b' ');
+    let next = put(text, behind, b'|');
+    put_all(text, next, s)
+}
+
+fn number_of(x: Refusal) -> usize
+    ensures { λ n. ⌜ n ≡ numberOf x ⌝ }
+{
+    match x {
+        Refusal::Field => 1,
+        Refusal::Depth => 2,
+        Refusal::Points => 3,
+        Refusal::Dimension => 4,
+        Refusal::PointHigh(_) => 5,
+        Refusal::PointTwice(_) => 6,
+        Refusal::Length => 7,
+        Refusal::SymbolHigh(_) => 8,
+        Refusal::TooFar => 9,
+        Refusal::SlipShort => 10,
+        Refusal::Edition => 11,
+        Refusal::SlipLong => 12,
+    }
+}
+
+fn place_of(x: Refusal) -> usize
+    ensures { λ n. ⌜ n ≡ placeOf x ⌝ }
+{
+    match x {
+        Refusal::Field => 0,
+        Refusal::Depth => 0,
+        Refusal::Points => 0,
+        Refusal::Dimension => 0,
+        Refusal::PointHigh(i) => i,
+        Refusal::PointTwice(i) => i,
+        Refusal::Length => 0,
+        Refusal::SymbolHigh(i) => i,
+        Refusal::TooFar => 0,
+        Refusal::SlipShort => 0,
+        Refusal::Edition => 0,
+        Refusal::SlipLong => 0,
+    }
+}
+
+fn number_in(a: Answer) -> usize
+    ensures { λ n. ⌜ n ≡ number a ⌝ }
+{
+    match a {
+        Answer::Done(_) => 0,
+        Answer::Refused(x) => number_of(x),
+    }
+}
+
+fn detail_in(a: Answer) -> usize
+    ensures { λ d. ⌜ d ≡ detail a ⌝ }
+{
+    match a {
+        Answer::Done(d) => d,
+        Answer::Refused(x) => place_of(x),
+    }
+}
+
+// Number and detail, at the front.
+fn put_heading(text: &mut [u8], a: Answer) -> usize
+    requires { ⌜ length (heading a) ≤ length (now text) ⌝ }
+    ensures { λ end. ⌜ Wrote (now (text .entry)) 0 (heading a) (now (text .exit)) end ⌝ }
+{
+    let number = number_in(a);
+    let detail = detail_in(a);
+    let next = put_number(text, 0, number);
+    put_spaced(text, next, detail)
+}
+
+fn put_refused(text: &mut [u8], x: Refusal) -> usize
+    requires { ⌜ length (refusedLine x) ≤ length (now text) ⌝ }
+    ensures { λ end. ⌜ Wrote (now (text .entry)) 0 (refusedLine x) (now (text .exit)) end ⌝ }
+{
+    let next = put_heading(text, Answer::Refused(x));
+    put(text, next, b'\n')
+}
+
+fn put_done(text: &mut [u8], total: usize, message: &[u8], depths: &[u8]) -> usize
+    requires { ⌜ length (doneLine total (now message) (now depths)) ≤ length (now text) ⌝ }
+    ensures { λ end. ⌜ Wrote (now (text .entry)) 0 (doneLine total (now (message .entry)) (now (depths .entry))) (now (text .exit)) end ⌝ }
+{
+    let first = put_heading(text, Answer::Done(total));
+    let second = put_list(text, first, message);
+    let third = put_list(text, second, depths);
+    put(text, third, b'\n')
+}
+
+// Copies a text to the front of a buffer that has room for it.
+fn copy(words: &[u8], text: &mut [u8])
+    requires { ⌜ length (now words) ≤ length (now text) ⌝ }
+    ensures { λ _. ⌜ now (text .exit) ≡ front (now (words .entry)) (now (text .entry)) ⌝ }
+{
+    let mut i = 0;
+    while i < words.len() {
+        text[i] = words[i];
+        i += 1;
+    }
+}
+
+// Hands out a text, or refuses a buffer that is too short for it.
+fn hand_out(words: &[u8], text: &mut [u8]) -> Answer
+    ensures { λ a. ⌜ Handed (now (words .entry)) (now (text .entry)) a (now (text .exit)) ⌝ }
+{
+    if text.len() < words.len() {
+        return Answer::Refused(Refusal::Length);
+    }
+    copy(words, text);
+    Answer::Done(words.len())
+}
