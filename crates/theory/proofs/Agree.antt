@@ -6,7 +6,6 @@ use mathlib.Core.Bool.{not}
 use native.Mathlib.Omega.{arith}
 use lib.Dec.{eqb}
 use borrow.Author.Tests.{not-false, eqb-true, eq-eqb}
-use Rattle.defs.specs.Place.{least}
 use Rattle.defs.specs.Distance.{agree}
 use Rattle.theory.proofs.Place.{least-le, least-before, least-max}
 

@@ -1,10 +1,9 @@
 -- Root counting: a polynomial whose degree is below the total depth of its zeros at distinct points is 0.
 -- Assumes nothing.
-use Prim.Native.Nat.{ℕ, zero, suc, _+_, _^_, _<_, _≤_, zero-le}
-use mathlib.Core.Path.{_≡_, refl, ap, sym, _∙_}
-use mathlib.Core.List.{List, [], _∷_}
+use Prim.Native.Nat.{ℕ, zero, suc, _+_, _^_, _<_, zero-le}
+use mathlib.Core.Path.{_≡_, _∙_}
+use mathlib.Core.List.{List}
 use native.Mathlib.Omega.{arith}
-use lib.ListN.{getD}
 use Rattle.defs.specs.Field.{Width, add, mul}
 use Rattle.defs.specs.Place.{total, Symbols}
 use Rattle.defs.specs.Pair.{Zero}
@@ -34,21 +33,21 @@ module _ (m : ℕ) (width : Width m) where
 
   module _ (P s : ℕ → ℕ) where
     -- divide k times by x - P n; the points before n are left to `rest`
-    peel : (n : ℕ) → ((i : ℕ) → i < suc n → P i < 2 ^ m) → Distinct (suc n) P
+    peel : (n : ℕ) → ((i : ℕ) → P i < 2 ^ m) → Distinct (suc n) P
         → ((f : List ℕ) → Symbols m f → Roots m f n P s → Deg (total n s) f → Zero f)
         → (k : ℕ) (f : List ℕ) → Symbols m f → Roots m f n P s → Root m f (P n) k → Deg (total n s + k) f → Zero f
     peel n p ne rest zero f o v w d = rest f o v (λ i l. d i (omega arith))
     peel n p ne rest (suc k) f o v w d =
         quot-zero m (P n) f (w 0 (omega arith))
         (peel n p ne rest k (quot m (P n) f) (quot-symbols m (P n) f o)
-        (λ i l. quot-root (P n) (P i) (p n (omega arith)) (p i (omega arith)) (ne i n l (omega arith)) f o (s i) (w 0 (omega arith)) (v i l))
+        (λ i l. quot-root (P n) (P i) (p n) (p i) (ne i n l (omega arith)) f o (s i) (w 0 (omega arith)) (v i l))
         (λ j l. h-quot m (P n) j f ∙ w (suc j) (omega arith))
         (quot-deg m (P n) (total n s + k) f (λ i l. d i (omega arith))))
 
-    pub root-count : (n : ℕ) → ((i : ℕ) → i < n → P i < 2 ^ m) → Distinct n P
+    pub root-count : (n : ℕ) → ((i : ℕ) → P i < 2 ^ m) → Distinct n P
         → (f : List ℕ) → Symbols m f → Roots m f n P s → Deg (total n s) f → Zero f
     unfolding total
     root-count zero p ne f o v d = λ i. d i zero-le
     root-count (suc n) p ne f o v d =
-        peel n p ne (root-count n (λ i l. p i (omega arith)) (λ i k l l′. ne i k l (omega arith))) (s n) f o
+        peel n p ne (root-count n p (λ i k l l′. ne i k l (omega arith))) (s n) f o
         (λ i l. v i (omega arith)) (v n (omega arith)) d

@@ -1,10 +1,9 @@
 -- Synthetic division by x - P: what the quotient's Hasse coefficients are at P and at other points, and what it keeps.
 -- Assumes nothing.
-use Prim.Native.Nat.{ℕ, zero, suc, _≤_, zero-le, suc-le-suc}
-use mathlib.Core.Path.{_≡_, refl, ap, sym, _∙_}
+use Prim.Native.Nat.{ℕ, zero, suc, zero-le, suc-le-suc}
+use mathlib.Core.Path.{_≡_, refl, sym, _∙_}
 use mathlib.Core.List.{List, [], _∷_}
 use native.Mathlib.Nat.{le-of-suc-le-suc, not-suc-le-zero}
-use lib.ListN.{getD}
 use lib.Pow.{pow-pos}
 use Rattle.defs.specs.Field.{add, mul}
 use Rattle.defs.specs.Place.{Symbols}

@@ -249,9 +249,6 @@ module _ (m : ℕ) where
       ∙ sym (respects (λ x. mul m x a) (λ x y. mul-add-l x y a) (λ x. mul-times2-l x a) m (1 % 2 ^ m) b)
       ∙ ap (λ (x : ℕ). mul m x a) (one-mul-mod b) ∙ mul-mod-l b a
 
-  pub mul-mod-r : (a b : ℕ) → mul m a (b % 2 ^ m) ≡ mul m a b
-  mul-mod-r a b = mul-comm a (b % 2 ^ m) ∙ mul-mod-l b a ∙ mul-comm b a
-
   -- (a b) c = (a c) b
   right-comm : (a b c : ℕ) → mul m (mul m a b) c ≡ mul m (mul m a c) b
   unfolding mul

@@ -1,10 +1,10 @@
 -- The product rule: the coefficient j of f·g is the sum over a ≤ j of those at a of f and at j - a of g.
 -- Assumes nothing.
 use Prim.Native.Nat.{ℕ, zero, suc}
-use mathlib.Core.Path.{_≡_, refl, ap, sym, _∙_}
+use mathlib.Core.Path.{_≡_, sym, _∙_}
 use mathlib.Core.List.{List, [], _∷_}
 use Rattle.defs.specs.Field.{add, mul}
-use Rattle.theory.specs.Poly.{h, padd, scale, pmul}
+use Rattle.theory.specs.Poly.{h, pmul}
 use Rattle.theory.specs.Key.{conv}
 use Rattle.theory.proofs.Field.{ring}
 use Rattle.theory.proofs.Sum.{conv-zero, conv-suc, conv-combine, conv-none}

@@ -14,3 +14,10 @@ pub mod Product
 pub mod Count
 pub mod Agree
 pub mod Chunks
+pub mod Differ
+pub mod Equation
+pub mod Row
+pub mod Distance
+pub mod Demand3
+pub mod Pair
+pub mod Quotient

@@ -10,7 +10,7 @@ use Rattle.defs.specs.Place.{Symbols}
 use Rattle.defs.specs.Pair.{Zero}
 use Rattle.theory.specs.Poly.{h, padd, scale}
 use Rattle.theory.specs.Vanish.{Same}
-use Rattle.theory.proofs.Field.{sums, ring, 0-add, add-0, add-self, add-lt, mul-lt, add-again, add-comm}
+use Rattle.theory.proofs.Field.{ring, 0-add, add-0, add-self, add-lt, mul-lt, add-again, add-comm}
 
 -- a sum is 0 only where its parts are equal
 pub add-eq : (a b : ℕ) → add a b ≡ 0 → a ≡ b

@@ -1,16 +1,16 @@
 -- The product of (x - P i)^(s i): its roots, its length and its top coefficient.
 -- Assumes nothing.
 use Prim.Native.Nat.{ℕ, zero, suc, _+_, _^_, _<_}
-use mathlib.Core.Path.{_≡_, refl, ap, sym, _∙_, subst}
+use mathlib.Core.Path.{_≡_, refl, _∙_, subst}
 use mathlib.Core.List.{List, [], _∷_}
 use native.Mathlib.Nat.{not-suc-le-zero, add-zero, add-suc}
 use native.Mathlib.Decide.{decLt}
 use native.Mathlib.Omega.{arith}
-use lib.ListN.{getD, length, List·getD-eq-default}
+use lib.ListN.{List·getD-eq-default}
 use lib.Pow.{pow-pos}
 use Rattle.defs.specs.Field.{add, mul}
 use Rattle.defs.specs.Place.{total, Symbols}
-use Rattle.theory.specs.Poly.{h, padd, scale, linear, linears, product}
+use Rattle.theory.specs.Poly.{h, linear, linears, product}
 use Rattle.theory.specs.Vanish.{Root, Roots, Monic}
 use Rattle.theory.proofs.Field.{ring, mul-0}
 use Rattle.theory.proofs.Linear.{getD-padd, h-padd, h-scale}

@@ -1,7 +1,7 @@
 -- The laws of sums in the field, and of convolutions.
 -- Assumes nothing.
-use Prim.Native.Nat.{ℕ, zero, suc, _+_, _-_, _<_, _≤_, suc-le-suc}
-use mathlib.Core.Path.{_≡_, refl, ap, sym, _∙_}
+use Prim.Native.Nat.{ℕ, zero, suc, _-_, _<_, _≤_, suc-le-suc}
+use mathlib.Core.Path.{_≡_, refl, ap, _∙_}
 use native.Mathlib.Nat.{sub-zero, suc-sub-suc, zero-sub, suc-add, zero-add}
 use native.Mathlib.Omega.{arith}
 use Rattle.defs.specs.Field.{add, mul}

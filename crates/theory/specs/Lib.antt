@@ -5,3 +5,5 @@ pub mod Poly
 pub mod Vanish
 pub mod Chunks
 pub mod Key
+pub mod Quotient
+pub mod Demand3
