@@ -1,0 +1,73 @@
+-- `check_code` meets its contract: each way out by its lemma.
+-- Assumes nothing.
+use mathlib.Core.Path.{_≡_, sym, _∙_}
+use lib.ListN.{length}
+use Rattle.defs.specs.Limits.{numbersVerdict}
+use Rattle.defs.specs.declared.Verdict.the-variants.{Fine}
+use Rattle.theory.proofs.Limits.{numbers-known, count-small}
+use Rattle.code.proofs.Outcome.{refused-numbers, refused-high, refused-twice, passed}
+use borrow.Author.Needs.{needs}
+use Rattle.code.proofs.check_code.Statement.{statement}
+use Rattle.code.proofs.check_code.Tie as tie
+
+-- the numbers have passed
+fine : (c : tie.After-enum-told)
+    → numbersVerdict (c .before .before .before .before .args .m) (c .before .before .before .before .args .r) (c .before .before .before .before .args .k) (length (c .before .before .before .before .args .points .now)) ≡ Fine
+fine c = sym (c .before .before .check-numbers .ensures) ∙ c .enum-told .given .1
+
+check-numbers-requires : tie.Need-check-numbers-requires
+check-numbers-requires c κs = search needs
+
+enum-known-v : tie.Need-enum-known-v
+enum-known-v c = search needs
+
+refused-requires : tie.Need-refused-requires
+refused-requires c κs = search needs
+
+returns : tie.Need-returns
+returns c = c .refused .ensures ∙ refused-numbers _ _ _ _ _ (sym (c .before .before .before .before .check-numbers .ensures) ∙ c .before .before .v .given .1)
+
+enum-told : tie.Need-enum-told
+enum-told c = search needs
+
+first-high-requires : tie.Need-first-high-requires
+first-high-requires c κs = numbers-known _ _ _ _ (fine c) .width
+
+refused-requires-2 : tie.Need-refused-requires-2
+refused-requires-2 c κs = search needs
+
+returns-2 : tie.Need-returns-2
+returns-2 c = c .refused2 .ensures ∙ refused-high _ _ _ _ (fine (c .before .before .before)) _ (c .before .before .first-high .ensures) (c .before .if1 .taken)
+
+first-twice-requires : tie.Need-first-twice-requires
+first-twice-requires c κs = search needs
+
+refused-requires-3 : tie.Need-refused-requires-3
+refused-requires-3 c κs = search needs
+
+returns-3 : tie.Need-returns-3
+returns-3 c = c .refused3 .ensures ∙ refused-twice _ _ _ _ (fine (c .before .before .before .before .before)) _ (c .before .before .before .before .first-high .ensures) (c .before .before .before .if1 .left) _ (c .before .before .first-twice .ensures) (c .before .if2 .taken)
+
+pad-requires : tie.Need-pad-requires
+pad-requires c κs = count-small (numbers-known _ _ _ _ (fine (c .before .before .before .before)))
+
+returns-4 : tie.Need-returns-4
+returns-4 c = passed _ _ _ _ (fine (c .before .before .before .before .before)) _ (c .before .before .before .before .first-high .ensures) (c .before .before .before .if1 .left) _ (c .before .before .first-twice .ensures) (c .before .if2 .left) _ (c .pad .ensures)
+
+pub check-code-spec : {M : Type 1} → statement M
+check-code-spec =
+    tie.close
+    (tie.spec
+    check-numbers-requires
+    enum-known-v
+    refused-requires
+    returns
+    enum-told
+    first-high-requires
+    refused-requires-2
+    returns-2
+    first-twice-requires
+    refused-requires-3
+    returns-3
+    pad-requires
+    returns-4)

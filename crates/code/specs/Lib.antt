@@ -1,0 +1,2 @@
+-- What the check of a code hands over.
+pub mod Checked

@@ -1,0 +1,7 @@
+-- The laws of slips.
+pub mod Bits
+pub mod Width
+pub mod HeaderBits
+pub mod Packed
+pub mod Front
+pub mod Writer

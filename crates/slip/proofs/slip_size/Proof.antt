@@ -1,0 +1,28 @@
+use native.Mathlib.Nat.{mul-le-mul}
+use native.Mathlib.Omega.{arith}
+use Rattle.defs.specs.Slip.{slipSize}
+use borrow.Author.Needs.{needs}
+use Rattle.slip.proofs.slip_size.Statement.{statement}
+use Rattle.slip.proofs.slip_size.Tie as tie
+use Rattle.slip.proofs.slip_size.Reads as reads
+use Rattle.slip.proofs.slip_size.Lts as lts
+
+-- src/lib.rt:18:10
+mul-result : tie.Need-mul-result
+mul-result c = omega (arith, c .pre, mul-le-mul {n₁ = c .args .symbols} {m₁ = c .args .m} {n₂ = 256} {m₂ = 8} (omega (arith, c .pre)) (omega (arith, c .pre)))
+
+-- src/lib.rt:18:10
+add-result : tie.Need-add-result
+add-result c = omega (arith, c .pre, mul-le-mul {n₁ = c .args .symbols} {m₁ = c .args .m} {n₂ = 256} {m₂ = 8} (omega (arith, c .pre)) (omega (arith, c .pre)))
+
+-- src/lib.rt:18:5
+add-result-2 : tie.Need-add-result-2
+add-result-2 c = omega (arith, c .pre, mul-le-mul {n₁ = c .args .symbols} {m₁ = c .args .m} {n₂ = 256} {m₂ = 8} (omega (arith, c .pre)) (omega (arith, c .pre)))
+
+-- src/lib.rt:14:1
+returns : tie.Need-returns
+unfolding slipSize
+returns c = search needs
+
+pub slip-size-spec : {M : Type 1} → statement M
+slip-size-spec = tie.close (tie.spec mul-result add-result add-result-2 returns)
