@@ -1,4 +1,4 @@
--- How long the lines are: they fit a buffer of 1024 bytes.
+-- How long the lines are, and that there is room for them.
 -- Assumes nothing.
 use Prim.Native.Nat.{ℕ, suc, _+_, _≤_, _<_}
 use mathlib.Core.Path.{_≡_, refl, ap, _∙_}
@@ -13,6 +13,7 @@ use Rattle.defs.specs.declared.Refusal.{Refusal}
 use Rattle.defs.specs.declared.Refusal.the-variants.{Field, Depth, Points, Dimension, PointHigh, PointTwice, Length, SymbolHigh, TooFar, SlipShort, Edition, SlipLong}
 use Rattle.defs.specs.declared.Answer.{Answer}
 use Rattle.defs.specs.declared.Answer.the-variants.{Done, Refused as No}
+use Rattle.line.specs.Text.{room}
 use Rattle.line.proofs.Decimal.{length-decimal, length-spaced}
 
 pub length-heading : (a : Answer) → length (heading a) ≡ length (decimal (number a)) + suc (length (decimal (detail a)))
@@ -47,12 +48,12 @@ number-small Edition = lit< tt
 number-small SlipLong = lit< tt
 
 -- two digits, a space, three digits and a newline
-pub refused-short : (x : Refusal) → placeOf x < 1000 → length (refusedLine x) ≤ 1024
+pub refused-short : (x : Refusal) → placeOf x < 1000 → length (refusedLine x) ≤ room
 refused-short x h =
     omega (arith, length-refused x, length-heading (No x), length-decimal 1 (numberOf x) (number-small x), length-decimal 2 (placeOf x) h)
 
 -- symbols have three digits at most and depths one
 pub done-short : (d : ℕ) (message depth : List ℕ) → d < 1000 → length message ≤ longest → ((i : ℕ) → getD message i 0 < 1000)
-    → length depth ≤ longest → ((i : ℕ) → getD depth i 0 < 10) → length (doneLine d message depth) ≤ 1024
+    → length depth ≤ longest → ((i : ℕ) → getD depth i 0 < 10) → length (doneLine d message depth) ≤ room
 done-short d message depth h lm m ld p =
     omega (arith, length-done d message depth, length-heading (Done d), length-decimal 0 0 (lit< tt), length-decimal 2 d h, length-listed message, length-spaced 2 message m, length-listed depth, length-spaced 0 depth p)

@@ -3,3 +3,7 @@ pub mod Decimal
 pub mod Lengths
 pub mod Pieces
 pub mod Handing
+pub mod Slips
+pub mod Lines
+pub mod Reading
+pub mod Unique

@@ -4,11 +4,17 @@ ghost use mathlib.Core.List.{[], _∷_, _++_};
 ghost use Prim.Native.Nat.{_+_, _<_, _≤_};
 ghost use lib.ListN.{length};
 ghost use Rattle.defs.specs.Refusal.{number, detail, numberOf, placeOf};
+ghost use Rattle.defs.specs.Limits.{longest};
 ghost use Rattle.defs.specs.Write.{front};
-ghost use Rattle.defs.specs.Line.{decimal, spaced, listed, heading, refusedLine, doneLine};
-ghost use Rattle.line.specs.Text.{Wrote, Handed};
+ghost use Rattle.defs.specs.Line.{decimal, spaced, listed, heading, refusedLine, doneLine, Lined};
+ghost use Rattle.line.specs.Text.{room, Wrote, Handed, Decodable, RowText, Taken, SlipText, Text};
 use defs::Answer;
+use defs::LONGEST;
 use defs::Refusal;
+use defs::SlipRead;
+
+// No line has more bytes.
+const ROOM: usize = 1024;
 
 // One byte.
 fn put(text: &mut [u8], at: usize, byte: u8) -> usize
@@ -170,4 +176,79 @@ fn hand_out(words: &[u8], text: &mut [u8]) -> Answer
     }
     copy(words, text);
     Answer::Done(words.len())
+}
+
+// Decodes a row and writes its line. message and depths are room to work in.
+fn put_row(
+    text: &mut [u8],
+    m: usize,
+    r: usize,
+    k: usize,
+    points: &[u8],
+    row: &[u8],
+    message: &mut [u8],
+    depths: &mut [u8],
+) -> usize
+    requires { ⌜ Decodable m r k (now points) (now row) (length (now message)) (length (now depths)) (length (now text)) ⌝ }
+    ensures { λ end. ⌜ RowText m r k (now (points .entry)) (now (row .entry)) (now (text .exit)) end ⌝ }
+{
+    let a = decode::decode(m, r, k, points, row, message, depths);
+    match a {
+        Answer::Refused(x) => put_refused(text, x),
+        Answer::Done(total) => put_done(text, total, message, depths),
+    }
+}
+
+fn zeros() -> [u8; LONGEST]
+    ensures { λ a. ⌜ length a ≡ longest ⌝ }
+{
+    [0u8; LONGEST]
+}
+
+// The line of a slip that was read: its points and its row stand in front of two buffers.
+fn put_slip(text: &mut [u8], s: SlipRead, points: &[u8], row: &[u8]) -> usize
+    requires { ⌜ Taken s (now points) (now row) (length (now text)) ⌝ }
+    ensures { λ end. ⌜ SlipText s (now (points .entry)) (now (row .entry)) (now (text .exit)) end ⌝ }
+{
+    let m = s.m;
+    let r = s.r;
+    let k = s.k;
+    let count = s.count;
+    let n = r * count;
+    let mut message = zeros();
+    let mut depths = zeros();
+    put_row(
+        text,
+        m,
+        r,
+        k,
+        &points[..count],
+        &row[..n],
+        &mut message[..k],
+        &mut depths[..count],
+    )
+}
+
+// Reads and decodes a slip and writes its line.
+fn put_line(bytes: &[u8], text: &mut [u8]) -> usize
+    requires { ⌜ length (now text) ≡ room ⌝ }
+    ensures { λ end. ⌜ Text (now (bytes .entry)) (now (text .exit)) end ⌝ }
+{
+    let mut points = zeros();
+    let mut row = zeros();
+    let s = slip::slip_read(bytes, &mut points, &mut row);
+    let a = s.answer;
+    match a {
+        Answer::Refused(x) => put_refused(text, x),
+        Answer::Done(_) => put_slip(text, s, &points, &row),
+    }
+}
+
+// The line of the bytes, in front of a buffer: read as a slip and decoded.
+pub fn line(bytes: &[u8], text: &mut [u8]) -> Answer
+    ensures { λ a. ⌜ Lined (now (bytes .entry)) (now (text .entry)) a (now (text .exit)) ⌝ }
+{
+    let mut words = [0u8; ROOM];
+    let size = put_line(bytes, &mut words);
+    hand_out(&words[..size], text)
 }
