@@ -1,7 +1,10 @@
--- The numbers that fit the fields of the header, and those that a header holds.
-use Prim.Native.Nat.{ℕ, _<_, _≤_}
+-- The numbers that fit the fields of the header, those that a header holds, and the symbols behind it.
+use Prim.Native.Nat.{ℕ, _+_, _*_, _<_, _≤_}
 use mathlib.Core.Path.{_≡_}
 use mathlib.Core.List.{List}
+use lib.ListN.{length}
+use Rattle.defs.specs.Field.{Width}
+use Rattle.defs.specs.Limits.{longest}
 use Rattle.defs.specs.Slip.{editionIn, widthIn, depthIn, countIn, dimensionIn}
 use Rattle.slip.specs.declared.Head.{Head}
 
@@ -22,3 +25,10 @@ pub record Heads (bytes : List ℕ) (h : Head) : Type 0 where
   pub r-is : h .r ≡ depthIn bytes
   pub count-is : h .count ≡ countIn bytes
   pub k-is : h .k ≡ dimensionIn bytes
+
+-- behind the header stand n symbols of m bits past the first ones
+pub record Holds (bytes : List ℕ) (m past n : ℕ) : Type 0 where
+  pub width : Width m
+  pub m-is : m ≡ widthIn bytes
+  pub few : past + n ≤ 2 * longest
+  pub enough : 24 + m * (past + n) ≤ 8 * length bytes

@@ -1,14 +1,21 @@
 // The slip, edition 1: its writer and its reader.
 ghost use mathlib.Core.Path.{_≡_};
-ghost use mathlib.Core.List.{_++_};
+ghost use mathlib.Core.List.{[], _++_};
 ghost use Prim.Native.Nat.{_+_, _*_, _^_, _<_, _≤_};
 ghost use lib.ListN.{length, getD};
 ghost use Rattle.defs.specs.Field.{Width};
 ghost use Rattle.defs.specs.Place.{Symbols};
-ghost use Rattle.defs.specs.Limits.{longest, Inside, codeVerdict};
-ghost use Rattle.defs.specs.Slip.{allBits, numberAt, headerBits, slipSize, slipBits, slipOf, widthIn, symbolsIn};
-ghost use Rattle.defs.specs.Write.{front};
-ghost use Rattle.slip.specs.Head.{Fitting, Heads};
+ghost use Rattle.defs.specs.Limits.{longest, firstTwice, Inside};
+ghost use Rattle.defs.specs.Slip.{allBits, numberAt, headerBits, slipSize, slipBits, slipOf, widthIn, countIn, symbolsIn, pointsIn};
+ghost use Rattle.defs.specs.Write.{front, writeVerdict, Written};
+ghost use Rattle.defs.specs.Read.{headVerdict, reading, Read};
+ghost use Rattle.slip.specs.Head.{Fitting, Heads, Holds};
+
+use defs::Answer;
+use defs::LONGEST;
+use defs::Refusal;
+use defs::SlipRead;
+use defs::Verdict;
 
 // The bytes of a slip with so many points and symbols in all.
 fn slip_size(m: usize, symbols: usize) -> usize
@@ -87,6 +94,37 @@ fn fill_slip(m: usize, r: usize, k: usize, points: &[u8], row: &[u8], size: usiz
     }
 }
 
+// The checks of the writer. size is the length of its byte buffer.
+fn check_write(m: usize, r: usize, k: usize, points: &[u8], row: &[u8], size: usize) -> Verdict
+    ensures { λ v. ⌜ v ≡ writeVerdict m r k (now (points .entry)) (now (row .entry)) size ⌝ }
+{
+    let checked = code::check_code(m, r, k, points);
+    let v = checked.verdict;
+    if let Verdict::Refused(x) = v {
+        return Verdict::Refused(x);
+    }
+    if row.len() != r * points.len() {
+        return Verdict::Refused(Refusal::Length);
+    }
+    if size < slip_size(m, points.len() + row.len()) {
+        return Verdict::Refused(Refusal::Length);
+    }
+    code::check_symbols(m, row)
+}
+
+// Writes a code and a row as a slip. Done with the slip's size.
+pub fn slip_write(m: usize, r: usize, k: usize, points: &[u8], row: &[u8], bytes: &mut [u8]) -> Answer
+    ensures { λ a. ⌜ Written m r k (now (points .entry)) (now (row .entry)) (now (bytes .entry)) a (now (bytes .exit)) ⌝ }
+{
+    let v = check_write(m, r, k, points, row, bytes.len());
+    if let Verdict::Refused(x) = v {
+        return Answer::Refused(x);
+    }
+    let size = slip_size(m, points.len() + row.len());
+    fill_slip(m, r, k, points, row, size, bytes);
+    Answer::Done(size)
+}
+
 // What the header of a slip says.
 struct Head {
     edition: usize,
@@ -127,12 +165,90 @@ fn read_symbol(m: usize, bytes: &[u8], j: usize) -> u8
 
 // Writes n symbols behind the header, past the first ones, to the front of a buffer.
 fn take_symbols(m: usize, bytes: &[u8], past: usize, n: usize, out: &mut [u8])
-    requires { ⌜ Width m × (m ≡ widthIn (now bytes)) × (past + n ≤ 2 * longest) × (24 + m * (past + n) ≤ 8 * length (now bytes)) × (n ≤ length (now out)) ⌝ }
+    requires { ⌜ Holds (now bytes) m past n × (n ≤ length (now out)) ⌝ }
     ensures { λ _. ⌜ now (out .exit) ≡ front (symbolsIn (now (bytes .entry)) past n) (now (out .entry)) ⌝ }
 {
     let mut i = 0;
     while i < n {
         out[i] = read_symbol(m, bytes, past + i);
         i += 1;
+    }
+}
+
+// 10, 11, 1, 3, 4, 10 and 12, on the header and the size.
+fn check_head(bytes: &[u8]) -> Verdict
+    ensures { λ v. ⌜ v ≡ headVerdict (now (bytes .entry)) ⌝ }
+{
+    if bytes.len() < 3 {
+        return Verdict::Refused(Refusal::SlipShort);
+    }
+    let head = head_of(bytes);
+    if head.edition != 1 {
+        return Verdict::Refused(Refusal::Edition);
+    }
+    let v = code::check_numbers(head.m, head.r, head.k, head.count);
+    if let Verdict::Refused(x) = v {
+        return Verdict::Refused(x);
+    }
+    let size = slip_size(head.m, head.count + head.r * head.count);
+    if bytes.len() < size {
+        return Verdict::Refused(Refusal::SlipShort);
+    }
+    if size < bytes.len() {
+        return Verdict::Refused(Refusal::SlipLong);
+    }
+    Verdict::Fine
+}
+
+// The least index of a point in a slip that equals an earlier one, and their number where there is none.
+fn twice_in(bytes: &[u8], m: usize, count: usize) -> usize
+    requires { ⌜ (headVerdict (now bytes) ≡ Verdict.Fine) × (m ≡ widthIn (now bytes)) × (count ≡ countIn (now bytes)) ⌝ }
+    ensures { λ i. ⌜ i ≡ firstTwice (pointsIn (now (bytes .entry))) ⌝ }
+{
+    let mut found = [0u8; LONGEST];
+    take_symbols(m, bytes, 0, count, &mut found);
+    code::first_twice(&found[..count])
+}
+
+fn refused(x: Refusal) -> SlipRead
+    ensures { λ s. ⌜ s ≡ reading (Verdict.Refused x) [] ⌝ }
+{
+    SlipRead {
+        answer: Answer::Refused(x),
+        m: 0,
+        r: 0,
+        count: 0,
+        k: 0,
+    }
+}
+
+// Reads a slip into the code's numbers, its points and a row. Done with 0.
+pub fn slip_read(bytes: &[u8], points: &mut [u8], row: &mut [u8]) -> SlipRead
+    ensures { λ s. ⌜ Read (now (bytes .entry)) (now (points .entry)) (now (row .entry)) s (now (points .exit)) (now (row .exit)) ⌝ }
+{
+    let v = check_head(bytes);
+    if let Verdict::Refused(x) = v {
+        return refused(x);
+    }
+    let head = head_of(bytes);
+    let twice = twice_in(bytes, head.m, head.count);
+    if twice < head.count {
+        return refused(Refusal::PointTwice(twice));
+    }
+    if points.len() < head.count {
+        return refused(Refusal::Length);
+    }
+    let n = head.r * head.count;
+    if row.len() < n {
+        return refused(Refusal::Length);
+    }
+    take_symbols(head.m, bytes, 0, head.count, points);
+    take_symbols(head.m, bytes, head.count, n, row);
+    SlipRead {
+        answer: Answer::Done(0),
+        m: head.m,
+        r: head.r,
+        count: head.count,
+        k: head.k,
     }
 }

@@ -29,20 +29,20 @@ loop-holds c = (omega arith, refl, filled-none _ _ _)
 
 -- src/lib.rt:135:40
 add-read-symbol : tie.Need-add-read-symbol Inv-loop μ-loop
-add-read-symbol c = omega (arith, c .before .before .before .before .pre .2)
+add-read-symbol c = omega (arith, c .before .before .before .before .pre .0 .few)
 
 -- src/lib.rt:135:18
 read-symbol-requires : tie.Need-read-symbol-requires Inv-loop μ-loop
 read-symbol-requires c κs = 
     let pre = c .before .before .before .before .pre in
     let a = c .before .before .before .before .args in
-    (pre .0,
-    omega (arith, pre .2),
-    omega (arith, pre .3, mul-suc (a .m) (a .past + c .before .loop .i), mul-le-mul-left {m = suc (a .past + c .before .loop .i)} {n = a .past + a .n} (a .m) (omega arith)))
+    (pre .0 .width,
+    omega (arith, pre .0 .few),
+    omega (arith, pre .0 .enough, mul-suc (a .m) (a .past + c .before .loop .i), mul-le-mul-left {m = suc (a .past + c .before .loop .i)} {n = a .past + a .n} (a .m) (omega arith)))
 
 -- src/lib.rt:135:9
 slice-write-out : tie.Need-slice-write-out Inv-loop μ-loop
-slice-write-out c = omega (arith, c .before .before .before .before .before .pre .4)
+slice-write-out c = omega (arith, c .before .before .before .before .before .pre .1)
 
 -- src/lib.rt:136:9
 add-i : tie.Need-add-i Inv-loop μ-loop
@@ -60,7 +60,7 @@ loop-again c =
     let at = c .before .before .loop in
     (omega arith,
     simp length-set (at .inv .1),
-    rw (at .inv .2, c .read-symbol .ensures) (filled-next (a .out .now) F (at .i) (omega (arith, c .before .before .before .before .before .pre .4))))
+    rw (at .inv .2, c .read-symbol .ensures) (filled-next (a .out .now) F (at .i) (omega (arith, c .before .before .before .before .before .pre .1))))
 
 -- src/lib.rt:129:1
 same-length : tie.Need-same-length Inv-loop μ-loop
@@ -74,7 +74,7 @@ returns c =
     let e : c .before .loop .i ≡ a .n = omega arith in
     c .before .loop .inv .2
     ∙ ap (λ (n : ℕ). filled (a .out .now) 0 F n) e
-    ∙ symbols-filled (a .m) (a .bytes .now) (a .past) (a .n) (a .out .now) (c .before .before .before .before .pre .1)
+    ∙ symbols-filled (a .m) (a .bytes .now) (a .past) (a .n) (a .out .now) (c .before .before .before .before .pre .0 .m-is)
 
 pub take-symbols-spec : {M : Type 1} → statement M
 take-symbols-spec =
