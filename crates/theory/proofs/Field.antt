@@ -1,5 +1,4 @@
 -- The laws of add and mul, at every m.
--- Assumes nothing.
 use mathlib.Core.Path.{_≡_, refl, sym, ap, ap₂, _∙_}
 use Prim.Native.Nat.{ℕ, zero, suc, _+_, _*_, _/_, _%_, _^_, _≤_, _<_}
 use native.Mathlib.Nat.{not-suc-le-zero, le-of-suc-le-suc, mod-lt, mod-mod, mod-eq-of-lt, zero-mul, one-mul, zero-lt-suc, mul-one, mul-mod-left, mul-div-cancel, mul-right-comm, suc-add, mod-one, add-zero, zero-add, pow-suc, div-eq-of-lt}
@@ -214,7 +213,7 @@ module _ (m : ℕ) where
       ∙ sym (respects (times2 m) times2-add (λ x. refl) m (a % 2 ^ m) b)
 
   -- 2 ^ i is x ^ i
-  times2-pow : (i : ℕ) → suc i < m → times2 m (2 ^ i) ≡ 2 ^ suc i
+  pub times2-pow : (i : ℕ) → suc i < m → times2 m (2 ^ i) ≡ 2 ^ suc i
   unfolding times2
   times2-pow i h =
       ap (λ (x : ℕ). add x (x / 2 ^ m % 2 * modulus m) % 2 ^ m) (sym (pow-suc 2 i))

@@ -1,4 +1,4 @@
--- 2 generates the nonzero elements of each field, by one computed test for each; so they have inverses, and can be cancelled.
+-- 2 generates the nonzero elements of each field, by one computed test for each; so they have inverses and cancel.
 use mathlib.Core.Path.{_≡_, refl, sym, ap, _∙_, subst}
 use mathlib.Core.Logic.{⊎-elim, inl, inr}
 use mathlib.Core.Bool.{Bool, true, false, _&&_, _||_, not}
@@ -19,7 +19,7 @@ unfoldable pub powers : ℕ → ℕ → ℕ → List ℕ
 powers m zero x = []
 powers m (suc n) x = x ∷ powers m n (times2 m x)
 
-powers-length : (m n x : ℕ) → length (powers m n x) ≡ n
+pub powers-length : (m n x : ℕ) → length (powers m n x) ≡ n
 unfolding powers
 powers-length m zero x = refl
 powers-length m (suc n) x = ap suc (powers-length m n (times2 m x))
@@ -78,13 +78,13 @@ passes m xs =
     allOccur (2 ^ m - 1) xs && (not (occurs 1 (drop 1 xs)) && eqb (times2 m (getD xs (2 ^ m - 2) 0)) 1)
 
 -- closed, so computed once
-exps4 : List ℕ
+unfoldable pub exps4 : List ℕ
 exps4 = powers 2 3 1
 
-exps16 : List ℕ
+unfoldable pub exps16 : List ℕ
 exps16 = powers 4 15 1
 
-exps256 : List ℕ
+unfoldable pub exps256 : List ℕ
 exps256 = powers 8 255 1
 
 test4 : T (passes 2 exps4)

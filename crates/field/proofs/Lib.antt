@@ -1,0 +1,7 @@
+-- Why the functions are right.
+pub mod Rules
+pub mod Pascal
+pub mod Elements
+pub mod Squaring
+pub mod Twice
+pub mod Doubling

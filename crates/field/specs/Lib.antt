@@ -1,0 +1,2 @@
+-- What the functions of the field arithmetic answer.
+pub mod Arithmetic
