@@ -1,7 +1,7 @@
 -- The line of a row that was decoded; a line fits a buffer of 1024 bytes.
 -- Assumes nothing.
-use Prim.Native.Nat.{ℕ, _+_, _*_, _-_, _/_, _^_, _<_, _≤_}
-use mathlib.Core.Path.{_≡_, refl, ap, sym, _∙_}
+use Prim.Native.Nat.{ℕ, _*_, _-_, _<_, _≤_}
+use mathlib.Core.Path.{_≡_}
 use mathlib.Core.List.{List}
 use native.Mathlib.Decide.{decLt}
 use native.Mathlib.Omega.{arith}
@@ -13,13 +13,11 @@ use Rattle.defs.specs.Row.{rowOf}
 use Rattle.defs.specs.Distance.{damage, depths, distance, radius, reach, Near}
 use Rattle.defs.specs.Limits.{longest, Inside}
 use Rattle.defs.specs.Decode.{decodeVerdict, Decoded, refused, found, none}
-use Rattle.defs.specs.Read.{readVerdict}
-use Rattle.defs.specs.Slip.{widthIn, depthIn, dimensionIn, pointsIn, rowIn}
 use Rattle.defs.specs.Line as L
 use Rattle.defs.specs.Line.{refusedLine, doneLine, RowLine, Line}
 use Rattle.defs.specs.declared.Refusal.{Refusal}
 use Rattle.defs.specs.declared.Refusal.the-variants.{TooFar}
-use Rattle.defs.specs.declared.Verdict.the-variants.{Fine, Refused}
+use Rattle.defs.specs.declared.Verdict.the-variants.{Fine}
 use Rattle.defs.specs.declared.Answer.{Answer}
 use Rattle.defs.specs.declared.Answer.the-variants.{Done, Refused as No}
 use Rattle.theory.specs.Limits.{Limits}

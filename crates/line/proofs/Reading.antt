@@ -1,17 +1,17 @@
 -- What the reader leaves, and the line of it.
 -- Assumes nothing.
-use Prim.Native.Nat.{ℕ, _+_, _*_, _<_, _≤_}
-use mathlib.Core.Path.{_≡_, refl, ap, sym, _∙_}
-use mathlib.Core.List.{List, _++_}
+use Prim.Native.Nat.{ℕ, _≤_}
+use mathlib.Core.Path.{_≡_, refl, ap, _∙_}
+use mathlib.Core.List.{List}
 use native.Mathlib.Omega.{arith}
 use lib.ListN.{length, take, drop, length-append}
 use lib.Seq.{take-at}
 use Rattle.defs.specs.Refusal.{kept}
 use Rattle.defs.specs.Limits.{longest}
-use Rattle.defs.specs.Slip.{widthIn, depthIn, countIn, dimensionIn, pointsIn, rowIn}
+use Rattle.defs.specs.Slip.{pointsIn, rowIn}
 use Rattle.defs.specs.Write.{front}
 use Rattle.defs.specs.Read.{readVerdict, reading, Read}
-use Rattle.defs.specs.Line.{refusedLine, Line, refused, read}
+use Rattle.defs.specs.Line.{refusedLine, refused, read}
 use Rattle.defs.specs.declared.Refusal.{Refusal}
 use Rattle.defs.specs.declared.Verdict.{Verdict}
 use Rattle.defs.specs.declared.Verdict.the-variants.{Fine, Refused}

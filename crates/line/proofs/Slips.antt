@@ -1,8 +1,8 @@
 -- What is known of bytes that are read as a slip: its code is inside the limits and its row is one that the decoder takes.
 -- Assumes nothing.
 use Prim.Native.Nat.{ℕ, _+_, _*_, _^_, _<_, _≤_}
-use mathlib.Core.Bool.{Bool, true, false, not}
-use mathlib.Core.Path.{_≡_, refl, ap, sym, _∙_}
+use mathlib.Core.Bool.{Bool, true, false}
+use mathlib.Core.Path.{_≡_, refl}
 use mathlib.Core.List.{List}
 use native.Mathlib.Decide.{decLt}
 use native.Mathlib.Omega.{arith}
@@ -10,7 +10,7 @@ use lib.Dec.{lit<}
 use lib.ListN.{length, getD, List·getD-eq-default}
 use lib.Pow.{pow-pos}
 use borrow.Author.Tests.{le-ltb, lt-leb, ltb-false, eq-eqb}
-use Rattle.defs.specs.Place.{Symbols, tab, least, firstHigh}
+use Rattle.defs.specs.Place.{Symbols, tab, firstHigh}
 use Rattle.defs.specs.Refusal.{refuse, andThen, placeOf}
 use Rattle.defs.specs.Limits.{longest, numbersVerdict, firstTwice, codeVerdict, Inside}
 use Rattle.defs.specs.Encode.{symbolsVerdict}

@@ -13,8 +13,8 @@ use defs::LONGEST;
 use defs::Refusal;
 use defs::SlipRead;
 
-// No line has more bytes.
-const ROOM: usize = 1024;
+// No line has more bytes than this.
+pub const ROOM: usize = 1024;
 
 // One byte.
 fn put(text: &mut [u8], at: usize, byte: u8) -> usize

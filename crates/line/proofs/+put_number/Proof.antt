@@ -1,3 +1,5 @@
+-- `put_number` writes the decimal digits; the measure is the number, of which a tenth is left at each call of itself.
+-- Assumes nothing.
 use native.Mathlib.Omega.{arith}
 use borrow.Author.Needs.{needs}
 use Prim.Native.Nat.{ℕ, _<_, _≤_}
@@ -25,7 +27,6 @@ abbrev put-number-below : ℕ → In 1 put-number-kinds.ps
 put-number-below t =
     and 1 put-number-kinds.ps (falls 1 put-number-kinds.ps _<_ μ-put-number t) put-number.Pre
 
--- src/lib.rt:28:35
 put-number-cast-put : (t : ℕ) → put-number-lts.Need-cast-put (
   put-reads.Asked,
   put-reads.Learnt,
@@ -34,7 +35,6 @@ put-number-cast-put : (t : ℕ) → put-number-lts.Need-cast-put (
 ) (put-number-at t) put-number.Post
 put-number-cast-put t c = omega arith
 
--- src/lib.rt:28:30
 put-number-add-put : (t : ℕ) → put-number-lts.Need-add-put (
   put-reads.Asked,
   put-reads.Learnt,
@@ -43,7 +43,6 @@ put-number-add-put : (t : ℕ) → put-number-lts.Need-add-put (
 ) (put-number-at t) put-number.Post
 put-number-add-put t c = omega arith
 
--- src/lib.rt:28:9
 put-number-put-requires : (t : ℕ) → put-number-lts.Need-put-requires (
   put-reads.Asked,
   put-reads.Learnt,
@@ -52,7 +51,6 @@ put-number-put-requires : (t : ℕ) → put-number-lts.Need-put-requires (
 ) (put-number-at t) put-number.Post
 put-number-put-requires t c κs = omega (arith, ap length (decimal-one (c .before .before .before .args .x) (c .before .if1 .taken)))
 
--- src/lib.rt:28:9
 put-number-same-length : (t : ℕ) → put-number-lts.Need-same-length (
   put-reads.Asked,
   put-reads.Learnt,
@@ -61,7 +59,6 @@ put-number-same-length : (t : ℕ) → put-number-lts.Need-same-length (
 ) (put-number-at t) put-number.Post
 put-number-same-length t c = search needs
 
--- src/lib.rt:28:9
 put-number-returns : (t : ℕ) → put-number-lts.Need-returns (
   put-reads.Asked,
   put-reads.Learnt,
@@ -70,7 +67,6 @@ put-number-returns : (t : ℕ) → put-number-lts.Need-returns (
 ) (put-number-at t) put-number.Post
 put-number-returns t c = rw (decimal-one _ (c .before .before .before .before .if1 .taken)) (c .before .before .put .ensures)
 
--- src/lib.rt:30:9
 put-number-put-number-requires : (t : ℕ) → put-number-lts.Need-put-number-requires (
   put-reads.Asked,
   put-reads.Learnt,
@@ -82,7 +78,6 @@ put-number-put-number-requires t c κs =
     let l : 10 ≤ x = omega arith in
     (omega arith, omega (arith, shorter x l (c .before .before .before .fits .x .fits)))
 
--- src/lib.rt:31:26
 put-number-cast-put-2 : (t : ℕ) → put-number-lts.Need-cast-put-2 (
   put-reads.Asked,
   put-reads.Learnt,
@@ -91,7 +86,6 @@ put-number-cast-put-2 : (t : ℕ) → put-number-lts.Need-cast-put-2 (
 ) (put-number-at t) put-number.Post
 put-number-cast-put-2 t c = omega arith
 
--- src/lib.rt:31:21
 put-number-add-put-2 : (t : ℕ) → put-number-lts.Need-add-put-2 (
   put-reads.Asked,
   put-reads.Learnt,
@@ -100,7 +94,6 @@ put-number-add-put-2 : (t : ℕ) → put-number-lts.Need-add-put-2 (
 ) (put-number-at t) put-number.Post
 put-number-add-put-2 t c = omega arith
 
--- src/lib.rt:31:5
 put-number-put-requires-2 : (t : ℕ) → put-number-lts.Need-put-requires-2 (
   put-reads.Asked,
   put-reads.Learnt,
@@ -112,7 +105,6 @@ put-number-put-requires-2 t c κs =
     let l : 10 ≤ x = omega arith in
     omega (arith, shorter x l (c .before .before .before .before .before .before .before .fits .x .fits), c .before .before .before .put-number .ensures .ends, c .before .before .before .put-number .ensures .size)
 
--- src/lib.rt:23:1
 put-number-same-length-2 : (t : ℕ) → put-number-lts.Need-same-length-2 (
   put-reads.Asked,
   put-reads.Learnt,
@@ -121,7 +113,6 @@ put-number-same-length-2 : (t : ℕ) → put-number-lts.Need-same-length-2 (
 ) (put-number-at t) put-number.Post
 put-number-same-length-2 t c = search needs
 
--- src/lib.rt:23:1
 put-number-returns-2 : (t : ℕ) → put-number-lts.Need-returns-2 (
   put-reads.Asked,
   put-reads.Learnt,

@@ -1,38 +1,29 @@
+-- `line` meets its contract: the text is the line of the bytes, and it is handed out.
+-- Assumes nothing.
 use lib.Seq.{length-take-le}
 use mathlib.Core.Path.{sym}
 use borrow.Author.Needs.{needs}
 use Rattle.line.proofs.line.Statement.{statement}
 use Rattle.line.proofs.line.Tie as tie
-use Rattle.line.proofs.line.Reads as reads
-use Rattle.line.proofs.line.Lts as lts
-use Rattle.line.proofs.hand_out.Reads as hand-out-reads
-use Rattle.line.proofs.put_line.Reads as put-line-reads
 
--- src/lib.rt:234:32
 slice-aggregate-put-line : tie.Need-slice-aggregate-put-line
 slice-aggregate-put-line c = search needs
 
--- src/lib.rt:234:9
 put-line-requires : tie.Need-put-line-requires
 put-line-requires c κs = search needs
 
--- src/lib.rt:235:14
 array-share-prefix-words : tie.Need-array-share-prefix-words
 array-share-prefix-words c = search needs
 
--- src/lib.rt:235:14
 slice-aggregate-hand-out : tie.Need-slice-aggregate-hand-out
 slice-aggregate-hand-out c = sym (length-take-le _ _ (c .before .before .put-line .ensures .within))
 
--- src/lib.rt:235:5
 hand-out-requires : tie.Need-hand-out-requires
 hand-out-requires c κs = search needs
 
--- src/lib.rt:230:1
 same-length : tie.Need-same-length
 same-length c = search needs
 
--- src/lib.rt:230:1
 returns : tie.Need-returns
 returns c = search needs
 

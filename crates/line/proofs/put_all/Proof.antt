@@ -1,6 +1,8 @@
-use Prim.Native.Nat.{_+_, _-_, _≤_}
+-- `put_all` writes each number behind a space; after i turns the first i are written.
+-- Assumes nothing.
+use Prim.Native.Nat.{_-_, _≤_}
 use native.Mathlib.Omega.{arith}
-use lib.ListN.{length, take, getD}
+use lib.ListN.{length, take}
 use borrow.Author.Needs.{needs}
 use Rattle.defs.specs.Line.{spaced}
 use Rattle.line.specs.Text.{Wrote}
@@ -8,9 +10,6 @@ use Rattle.line.proofs.Decimal.{spaced-room}
 use Rattle.line.proofs.Pieces.{wrote-none, wrote-more, wrote-all}
 use Rattle.line.proofs.put_all.Statement.{statement}
 use Rattle.line.proofs.put_all.Tie as tie
-use Rattle.line.proofs.put_all.Reads as reads
-use Rattle.line.proofs.put_all.Lts as lts
-use Rattle.line.proofs.put_spaced.Reads as put-spaced-reads
 
 abbrev Inv-loop : tie.InvT-loop
 Inv-loop text₀ at s end₀ i₀ text end i = (i ≤ length s) × Wrote text₀ at (spaced (take i s)) text end
@@ -18,41 +17,32 @@ Inv-loop text₀ at s end₀ i₀ text end i = (i ≤ length s) × Wrote text₀
 abbrev μ-loop : tie.MeasureT-loop
 μ-loop text₀ at s end₀ i₀ text end i = length s - i
 
--- src/lib.rt:50:5
 loop-holds : tie.Need-loop-holds Inv-loop μ-loop
 unfolding spaced
 loop-holds c = (omega arith, wrote-none _ _)
 
--- src/lib.rt:51:37
 shared-slice-read-put-spaced : tie.Need-shared-slice-read-put-spaced Inv-loop μ-loop
 shared-slice-read-put-spaced c = search needs
 
--- src/lib.rt:51:37
 cast-put-spaced : tie.Need-cast-put-spaced Inv-loop μ-loop
 cast-put-spaced c = omega (arith, c .shared-slice-known2 .given (c .before .before .before .loop .i))
 
--- src/lib.rt:51:9
 put-spaced-requires : tie.Need-put-spaced-requires Inv-loop μ-loop
 put-spaced-requires c κs = omega (arith, spaced-room (c .before .before .before .before .before .before .args .s .now) (c .before .before .before .loop .i) (omega arith))
 
--- src/lib.rt:52:9
 add-i : tie.Need-add-i Inv-loop μ-loop
 add-i c = search needs
 
--- src/lib.rt:50:5
 loop-less : tie.Need-loop-less Inv-loop μ-loop
 loop-less c = search needs
 
--- src/lib.rt:50:5
 loop-again : tie.Need-loop-again Inv-loop μ-loop
 loop-again c =
     (omega arith, wrote-more _ (c .before .before .before .before .before .before .loop .i) (c .before .before .before .before .before .loop-test .taken) (c .before .before .before .before .before .before .loop .inv .1) (c .before .before .put-spaced .ensures))
 
--- src/lib.rt:44:1
 same-length : tie.Need-same-length Inv-loop μ-loop
 same-length c = search needs
 
--- src/lib.rt:44:1
 returns : tie.Need-returns Inv-loop μ-loop
 returns c = wrote-all _ _ (c .loop-test .left) (c .before .loop .inv .1)
 

@@ -1,36 +1,26 @@
+-- `put_heading` writes number and detail.
+-- Assumes nothing.
 use Rattle.line.proofs.Pieces.{heading-room, wrote-heading}
 use native.Mathlib.Omega.{arith}
 use borrow.Author.Needs.{needs}
 use Rattle.line.proofs.put_heading.Statement.{statement}
 use Rattle.line.proofs.put_heading.Tie as tie
-use Rattle.line.proofs.put_heading.Reads as reads
-use Rattle.line.proofs.put_heading.Lts as lts
-use Rattle.line.proofs.detail_in.Reads as detail-in-reads
-use Rattle.line.proofs.number_in.Reads as number-in-reads
-use Rattle.line.proofs.put_number.Reads as put-number-reads
-use Rattle.line.proofs.put_spaced.Reads as put-spaced-reads
 
--- src/lib.rt:129:9
 number-in-requires : tie.Need-number-in-requires
 number-in-requires c κs = search needs
 
--- src/lib.rt:130:9
 detail-in-requires : tie.Need-detail-in-requires
 detail-in-requires c κs = search needs
 
--- src/lib.rt:131:9
 put-number-requires : tie.Need-put-number-requires
 put-number-requires c κs = omega (arith, heading-room (c .before .before .before .before .args .a) _ _ (c .before .before .number-in .ensures) (c .before .detail-in .ensures), c .before .before .before .before .pre)
 
--- src/lib.rt:132:5
 put-spaced-requires : tie.Need-put-spaced-requires
 put-spaced-requires c κs = omega (arith, heading-room (c .before .before .before .before .before .before .before .before .args .a) _ _ (c .before .before .before .before .before .before .number-in .ensures) (c .before .before .before .before .before .detail-in .ensures), c .before .before .before .before .before .before .before .before .pre, c .before .before .before .put-number .ensures .size, c .before .before .before .put-number .ensures .ends)
 
--- src/lib.rt:125:1
 same-length : tie.Need-same-length
 same-length c = search needs
 
--- src/lib.rt:125:1
 returns : tie.Need-returns
 returns c = wrote-heading (c .before .before .before .before .before .before .before .before .before .before .before .args .a) _ _ (c .before .before .before .before .before .before .before .before .before .number-in .ensures) (c .before .before .before .before .before .before .before .before .detail-in .ensures) (c .before .before .before .before .before .before .put-number .ensures) (c .before .before .put-spaced .ensures)
 

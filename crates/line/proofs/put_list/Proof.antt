@@ -1,31 +1,24 @@
+-- `put_list` writes a bar and a list of numbers.
+-- Assumes nothing.
 use Rattle.line.proofs.Pieces.{wrote-list}
 use Rattle.line.proofs.Lengths.{length-listed}
 use native.Mathlib.Omega.{arith}
 use borrow.Author.Needs.{needs}
 use Rattle.line.proofs.put_list.Statement.{statement}
 use Rattle.line.proofs.put_list.Tie as tie
-use Rattle.line.proofs.put_list.Reads as reads
-use Rattle.line.proofs.put_list.Lts as lts
-use Rattle.line.proofs.put.Reads as put-reads
-use Rattle.line.proofs.put_all.Reads as put-all-reads
 
--- src/lib.rt:63:9
 put-requires : tie.Need-put-requires
 put-requires c κs = omega (arith, length-listed (c .before .before .before .args .s .now), c .before .before .before .pre)
 
--- src/lib.rt:64:9
 put-requires-2 : tie.Need-put-requires-2
 put-requires-2 c κs = omega (arith, length-listed (c .before .before .before .before .before .before .before .args .s .now), c .before .before .before .before .before .before .before .pre, c .before .before .before .put .ensures .size, c .before .before .before .put .ensures .ends)
 
--- src/lib.rt:65:5
 put-all-requires : tie.Need-put-all-requires
 put-all-requires c κs = omega (arith, length-listed (c .before .before .before .before .before .before .before .before .before .before .before .args .s .now), c .before .before .before .before .before .before .before .before .before .before .before .pre, c .before .before .before .before .before .before .before .put .ensures .size, c .before .before .before .before .before .before .before .put .ensures .ends, c .before .before .before .put2 .ensures .size, c .before .before .before .put2 .ensures .ends)
 
--- src/lib.rt:59:1
 same-length : tie.Need-same-length
 same-length c = search needs
 
--- src/lib.rt:59:1
 returns : tie.Need-returns
 returns c = wrote-list _ (c .before .before .before .before .before .before .before .before .before .before .put .ensures) (c .before .before .before .before .before .before .put2 .ensures) (c .before .before .put-all .ensures)
 

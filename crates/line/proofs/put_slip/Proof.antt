@@ -1,59 +1,45 @@
+-- `put_slip` lends the decoder the points, the row and the room that a slip asks for.
+-- Assumes nothing.
 use lib.Seq.{length-take-le}
 use native.Mathlib.Omega.{arith}
 use mathlib.Core.Path.{sym}
 use borrow.Author.Needs.{needs}
 use Rattle.line.proofs.put_slip.Statement.{statement}
 use Rattle.line.proofs.put_slip.Tie as tie
-use Rattle.line.proofs.put_slip.Reads as reads
-use Rattle.line.proofs.put_slip.Lts as lts
-use Rattle.line.proofs.put_row.Reads as put-row-reads
-use Rattle.line.proofs.zeros.Reads as zeros-reads
 
--- src/lib.rt:208:13
 mul-n : tie.Need-mul-n
 mul-n c = search needs
 
--- src/lib.rt:209:23
 zeros-requires : tie.Need-zeros-requires
 zeros-requires c κs = search needs
 
--- src/lib.rt:210:22
 zeros-requires-2 : tie.Need-zeros-requires-2
 zeros-requires-2 c κs = search needs
 
--- src/lib.rt:211:28
 slice-aggregate-put-row : tie.Need-slice-aggregate-put-row
 slice-aggregate-put-row c = sym (length-take-le _ _ (c .before .before .before .before .before .before .before .pre .points-in))
 
--- src/lib.rt:211:46
 slice-aggregate-put-row-2 : tie.Need-slice-aggregate-put-row-2
 slice-aggregate-put-row-2 c = sym (length-take-le _ _ (c .before .before .before .before .before .before .before .before .pre .row-in))
 
--- src/lib.rt:211:57
 array-borrow-prefix-message : tie.Need-array-borrow-prefix-message
 array-borrow-prefix-message c = omega (arith, c .before .before .before .before .before .before .before .before .pre .k-top, c .before .before .before .before .zeros .ensures)
 
--- src/lib.rt:211:57
 slice-aggregate-put-row-3 : tie.Need-slice-aggregate-put-row-3
 slice-aggregate-put-row-3 c = sym (length-take-le _ _ (omega (arith, c .before .before .before .before .before .before .before .before .before .pre .k-top, c .before .before .before .before .before .zeros .ensures)))
 
--- src/lib.rt:211:76
 array-borrow-prefix-depths : tie.Need-array-borrow-prefix-depths
 array-borrow-prefix-depths c = omega (arith, c .before .before .before .before .before .before .before .before .before .pre .count-top, c .before .before .before .before .zeros2 .ensures)
 
--- src/lib.rt:211:76
 slice-aggregate-put-row-4 : tie.Need-slice-aggregate-put-row-4
 slice-aggregate-put-row-4 c = sym (length-take-le _ _ (omega (arith, c .before .before .before .before .before .before .before .before .before .before .pre .count-top, c .before .before .before .before .before .zeros2 .ensures)))
 
--- src/lib.rt:211:5
 put-row-requires : tie.Need-put-row-requires
 put-row-requires c κs = rw (length-take-le (c .before .before .before .before .before .before .before .before .before .before .args .s .k) (c .before .before .before .before .before .before .zeros .result) (omega (arith, c .before .before .before .before .before .before .before .before .before .before .pre .k-top, c .before .before .before .before .before .before .zeros .ensures)), length-take-le (c .before .before .before .before .before .before .before .before .before .before .args .s .count) (c .before .before .before .before .before .zeros2 .result) (omega (arith, c .before .before .before .before .before .before .before .before .before .before .pre .count-top, c .before .before .before .before .before .zeros2 .ensures))) (c .before .before .before .before .before .before .before .before .before .before .pre .decodable)
 
--- src/lib.rt:200:1
 same-length : tie.Need-same-length
 same-length c = search needs
 
--- src/lib.rt:200:1
 returns : tie.Need-returns
 returns c = search needs
 
