@@ -1,6 +1,6 @@
 -- The line of a row that was decoded; a line fits a buffer of 1024 bytes.
 -- Assumes nothing.
-use Prim.Native.Nat.{ℕ, _*_, _-_, _<_, _≤_}
+use Prim.Native.Nat.{ℕ, _*_, _<_, _≤_}
 use mathlib.Core.Path.{_≡_}
 use mathlib.Core.List.{List}
 use native.Mathlib.Decide.{decLt}

@@ -1,9 +1,8 @@
 // The line that slipread prints, from the bytes of a slip.
 ghost use mathlib.Core.Path.{_≡_};
-ghost use mathlib.Core.List.{[], _∷_, _++_};
+ghost use mathlib.Core.List.{[], _∷_};
 ghost use Prim.Native.Nat.{_+_, _<_, _≤_};
 ghost use lib.ListN.{length};
-ghost use Rattle.defs.specs.Refusal.{number, detail, numberOf, placeOf};
 ghost use Rattle.defs.specs.Limits.{longest};
 ghost use Rattle.defs.specs.Write.{front};
 ghost use Rattle.defs.specs.Line.{decimal, spaced, listed, heading, refusedLine, doneLine, Lined};
@@ -70,69 +69,13 @@ fn put_list(text: &mut [u8], at: usize, s: &[u8]) -> usize
     put_all(text, next, s)
 }
 
-fn number_of(x: Refusal) -> usize
-    ensures { λ n. ⌜ n ≡ numberOf x ⌝ }
-{
-    match x {
-        Refusal::Field => 1,
-        Refusal::Depth => 2,
-        Refusal::Points => 3,
-        Refusal::Dimension => 4,
-        Refusal::PointHigh(_) => 5,
-        Refusal::PointTwice(_) => 6,
-        Refusal::Length => 7,
-        Refusal::SymbolHigh(_) => 8,
-        Refusal::TooFar => 9,
-        Refusal::SlipShort => 10,
-        Refusal::Edition => 11,
-        Refusal::SlipLong => 12,
-    }
-}
-
-fn place_of(x: Refusal) -> usize
-    ensures { λ n. ⌜ n ≡ placeOf x ⌝ }
-{
-    match x {
-        Refusal::Field => 0,
-        Refusal::Depth => 0,
-        Refusal::Points => 0,
-        Refusal::Dimension => 0,
-        Refusal::PointHigh(i) => i,
-        Refusal::PointTwice(i) => i,
-        Refusal::Length => 0,
-        Refusal::SymbolHigh(i) => i,
-        Refusal::TooFar => 0,
-        Refusal::SlipShort => 0,
-        Refusal::Edition => 0,
-        Refusal::SlipLong => 0,
-    }
-}
-
-fn number_in(a: Answer) -> usize
-    ensures { λ n. ⌜ n ≡ number a ⌝ }
-{
-    match a {
-        Answer::Done(_) => 0,
-        Answer::Refused(x) => number_of(x),
-    }
-}
-
-fn detail_in(a: Answer) -> usize
-    ensures { λ d. ⌜ d ≡ detail a ⌝ }
-{
-    match a {
-        Answer::Done(d) => d,
-        Answer::Refused(x) => place_of(x),
-    }
-}
-
 // Number and detail, at the front.
 fn put_heading(text: &mut [u8], a: Answer) -> usize
     requires { ⌜ length (heading a) ≤ length (now text) ⌝ }
     ensures { λ end. ⌜ Wrote (now (text .entry)) 0 (heading a) (now (text .exit)) end ⌝ }
 {
-    let number = number_in(a);
-    let detail = detail_in(a);
+    let number = answers::number_in(a);
+    let detail = answers::detail_in(a);
     let next = put_number(text, 0, number);
     put_spaced(text, next, detail)
 }
