@@ -54,7 +54,7 @@ pub data RowLine (m r k : ℕ) (points w text : List ℕ) : Type 0 where
       → RowLine m r k points w text
   none : ((f : List ℕ) → Near m r k points w f → ⊥) → text ≡ refusedLine TooFar → RowLine m r k points w text
 
--- the line of some bytes: they are refused as a slip, or they are that of a row
+-- the line of some bytes: they are refused as a slip, or the row that stands in them is decoded
 pub data Line (bytes text : List ℕ) : Type 0 where
   refused : (x : Refusal) → readVerdict bytes longest longest ≡ Refused x → text ≡ refusedLine x → Line bytes text
   read : readVerdict bytes longest longest ≡ Fine
