@@ -169,9 +169,10 @@ module _ (m k : ℕ) (q₀ q₁ : List ℕ) (d : Dividing m k q₀ q₁) (c : �
             → Remains m g q₁ i (λ x. getD rem′ x 0) × ((j : ℕ) → i ≤ j → j < k → getD (set f i a) j 0 ≡ getD g j 0)
         turn g g-is (remains, done) =
             let deg : Deg (suc (c - 1)) q₁ = λ j l. t .above j (omega arith) in
-            let is : a ≡ getD g i 0 = y .is ∙ remains-found m q₁ g (c - 1) i v (λ x. getD rem x 0) deg remains (g-is .symbols i) unit in
-            (remains-turn m q₁ g i (λ x. getD rem x 0) (λ x. getD rem′ x 0) remains (y .before) (λ j. off g is j (decLt j c)),
-            λ j l l′. last g is done j l l′ (ℕ-discrete j i))
+            let is : a ≡ getD g i 0 = y .is ∙ remains-found m q₁ g (c - 1) i v (λ x. getD rem x 0) deg remains (g-is .symbols i) unit in (
+              remains-turn m q₁ g i (λ x. getD rem x 0) (λ x. getD rem′ x 0) remains (y .before) (λ j. off g is j (decLt j c)),
+              λ j l l′. last g is done j l l′ (ℕ-discrete j i),
+            )
 
     pub going-turn : (f rem : List ℕ) (at a : ℕ) (rem′ : List ℕ) → 0 < at → Going m k q₀ q₁ f rem at
         → Divided m v q₁ c (at - 1) rem a rem′ → Going m k q₀ q₁ (set f (at - 1) a) rem′ (at - 1)

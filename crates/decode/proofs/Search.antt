@@ -4,7 +4,7 @@ use mathlib.Core.Path.{_≡_, refl, ap, sym, _∙_}
 use mathlib.Core.List.{List}
 use native.Mathlib.Nat.{mul-comm}
 use native.Mathlib.Omega.{arith}
-use lib.ListN.{length, getD, take, length-take}
+use lib.ListN.{length, take, length-take}
 use lib.Seq.{ext-getD, getD-take, length-take-le}
 use Rattle.defs.specs.Row.{Message, rowOf}
 use Rattle.defs.specs.Distance.{distance, radius, reach, Near}
@@ -12,7 +12,6 @@ use Rattle.defs.specs.Pair.{IsPair}
 use Rattle.defs.specs.Limits.{longest}
 use Rattle.defs.specs.declared.Refusal.{Refusal}
 use Rattle.defs.specs.declared.Refusal.the-variants.{TooFar}
-use Rattle.defs.specs.declared.Verdict.{Verdict}
 use Rattle.defs.specs.declared.Verdict.the-variants.{Fine, Refused}
 use Rattle.defs.specs.declared.Code.{Code}
 use Rattle.theory.specs.Limits.{Limits}
@@ -122,8 +121,7 @@ module _ (c : Code) (is : IsCode c) (w : List ℕ) (size : length w ≡ c .r * c
   pub parts : (a : Paired) → a .verdict ≡ Fine → Found (c .m) (c .r) (c .k) points w a → (t : ℕ) → t ≡ radius (length w) (c .k)
       → ((length w + c .k) / 2 ≤ length (a .q0)) × (t + 1 ≤ length (a .q1))
   parts a e x t h =
-      let p = pair-found a e x ((length w + c .k) / 2) t refl h in
-      (
+      let p = pair-found a e x ((length w + c .k) / 2) t refl h in (
         omega (arith, p .size₀, long, length-take ((length w + c .k) / 2) (a .q0), ap (λ (n : ℕ). (n + c .k) / 2) long),
         omega (arith, p .size₁, length-take (t + 1) (a .q1), h, ap (λ (n : ℕ). radius n (c .k)) long),
       )

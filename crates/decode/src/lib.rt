@@ -10,7 +10,6 @@ ghost use Rattle.rows.specs.Chunk.{Rows};
 ghost use Rattle.pair.specs.Found.{IsRow};
 ghost use Rattle.decode.specs.Quotient.{Terms, Fits, TakenOff, Divisible, Divided, Dividing, Quotient};
 ghost use Rattle.decode.specs.Search.{restVerdict, Candidate, Sent, IsSought, Measured};
-
 use defs::Answer;
 use defs::Code;
 use defs::LONGEST;
@@ -160,7 +159,15 @@ fn write_depths(r: usize, sent: &[u8], row: &[u8], depths: &mut [u8]) -> usize
 }
 
 // 7 and 8: n symbols in the row, and room for k symbols and count depths.
-fn check_rest(m: usize, n: usize, k: usize, count: usize, row: &[u8], size: usize, deep: usize) -> Verdict
+fn check_rest(
+    m: usize,
+    n: usize,
+    k: usize,
+    count: usize,
+    row: &[u8],
+    size: usize,
+    deep: usize,
+) -> Verdict
     requires { ⌜ Width m ⌝ }
     ensures { λ v. ⌜ v ≡ restVerdict m n k count (now (row .entry)) size deep ⌝ }
 {
@@ -177,7 +184,15 @@ fn check_rest(m: usize, n: usize, k: usize, count: usize, row: &[u8], size: usiz
 }
 
 // Decodes a row to the message near to it, or refuses and leaves both buffers as they were.
-pub fn decode(m: usize, r: usize, k: usize, points: &[u8], row: &[u8], message: &mut [u8], depths: &mut [u8]) -> Answer
+pub fn decode(
+    m: usize,
+    r: usize,
+    k: usize,
+    points: &[u8],
+    row: &[u8],
+    message: &mut [u8],
+    depths: &mut [u8],
+) -> Answer
     ensures { λ a. ⌜ Decoded m r k (now (points .entry)) (now (row .entry)) (now (message .entry)) (now (depths .entry)) a (now (message .exit)) (now (depths .exit)) ⌝ }
 {
     let checked = code::check_code(m, r, k, points);

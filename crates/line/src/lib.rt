@@ -98,18 +98,6 @@ fn put_done(text: &mut [u8], total: usize, message: &[u8], depths: &[u8]) -> usi
     put(text, third, b'\n')
 }
 
-// Copies a text to the front of a buffer that has room for it.
-fn copy(words: &[u8], text: &mut [u8])
-    requires { ⌜ length (now words) ≤ length (now text) ⌝ }
-    ensures { λ _. ⌜ now (text .exit) ≡ front (now (words .entry)) (now (text .entry)) ⌝ }
-{
-    let mut i = 0;
-    while i < words.len() {
-        text[i] = words[i];
-        i += 1;
-    }
-}
-
 // Hands out a text, or refuses a buffer that is too short for it.
 fn hand_out(words: &[u8], text: &mut [u8]) -> Answer
     ensures { λ a. ⌜ Handed (now (words .entry)) (now (text .entry)) a (now (text .exit)) ⌝ }
@@ -117,7 +105,7 @@ fn hand_out(words: &[u8], text: &mut [u8]) -> Answer
     if text.len() < words.len() {
         return Answer::Refused(Refusal::Length);
     }
-    copy(words, text);
+    code::copy(words, text);
     Answer::Done(words.len())
 }
 

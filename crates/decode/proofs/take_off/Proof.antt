@@ -2,7 +2,6 @@
 use Prim.Native.Nat.{_≤_, _-_}
 use borrow.Author.Needs.{needs}
 use native.Mathlib.Omega.{arith}
-use lib.ListN.{length, length-set}
 use Rattle.decode.specs.Quotient.{TakenOff}
 use Rattle.decode.proofs.Division.{off-none, off-more, off-all}
 use Rattle.decode.proofs.take_off.Statement.{statement}

@@ -44,11 +44,13 @@ loop-less c = omega (arith, c .before .before .loop .inv .1)
 
 loop-again : tie.Need-loop-again Inv-loop μ-loop
 loop-again c =
-    let inv = c .before .before .loop .inv in
-    (omega (arith, inv .1), simp length-set (inv .1),
-    rw (inv .2, c .chunk-damage .ensures) (filled-next _ _ (c .before .before .loop .i) (omega (arith, inv .1))),
-    distance-more _ _ _ _ _ _ (inv .3) (c .chunk-damage .ensures),
-    omega (arith, c .before .before .before .before .before .before .pre .depth, inv .4, c .chunk-damage .ensures, damage-le (c .before .before .before .before .before .before .args .r) (c .before .before .before .before .before .before .args .sent .now) (c .before .before .before .before .before .before .args .row .now) (c .before .before .loop .i)))
+    let inv = c .before .before .loop .inv in (
+      omega (arith, inv .1),
+      simp length-set (inv .1),
+      rw (inv .2, c .chunk-damage .ensures) (filled-next _ _ (c .before .before .loop .i) (omega (arith, inv .1))),
+      distance-more _ _ _ _ _ _ (inv .3) (c .chunk-damage .ensures),
+      omega (arith, c .before .before .before .before .before .before .pre .depth, inv .4, c .chunk-damage .ensures, damage-le (c .before .before .before .before .before .before .args .r) (c .before .before .before .before .before .before .args .sent .now) (c .before .before .before .before .before .before .args .row .now) (c .before .before .loop .i)),
+    )
 
 same-length : tie.Need-same-length Inv-loop μ-loop
 same-length c = search needs

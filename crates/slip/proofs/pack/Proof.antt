@@ -1,6 +1,6 @@
 -- `pack` meets its contract: byte is the number of the bits of the symbols that were taken.
 -- Assumes nothing.
-use Prim.Native.Nat.{_+_, _*_, _-_, _/_, _^_, _≤_}
+use Prim.Native.Nat.{_*_, _-_, _/_, _^_, _≤_}
 use mathlib.Core.Path.{_≡_}
 use mathlib.Core.List.{_++_}
 use native.Mathlib.Nat.{div-le-self, mul-le-mul}
