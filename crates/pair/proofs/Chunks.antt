@@ -1,7 +1,7 @@
 -- The equations of one chunk: the depths at its point, and then its symbols' multiples of them, added one after another.
 -- Assumes nothing.
 use Prim.Native.Nat.{ℕ, suc, _+_, _*_, _-_, _<_, _≤_, min}
-use mathlib.Core.Path.{_≡_, refl, ap, ap₂, sym, subst, _∙_}
+use mathlib.Core.Path.{_≡_, ap, ap₂, sym, subst, _∙_}
 use mathlib.Core.Logic.{⊎-elim}
 use mathlib.Core.List.{List}
 use native.Mathlib.Nat.{le-antisymm, add-zero}
@@ -13,7 +13,7 @@ use Rattle.theory.proofs.Field.{add-0}
 use Rattle.theory.proofs.Sum.{sum-ext}
 use Rattle.solve.specs.Table.{stride, at}
 use Rattle.solve.proofs.Sums.{lt-or-le}
-use Rattle.pair.specs.Equation.{powerAt, mixedAt, Equation}
+use Rattle.pair.specs.Equation.{powerAt, mixedAt}
 use Rattle.pair.specs.Fill.{Powers, Added, Chunk}
 use Rattle.pair.proofs.Expand.{sum-split}
 

@@ -6,9 +6,9 @@ use mathlib.Core.Logic.{⊎-elim}
 use mathlib.Core.List.{List}
 use native.Mathlib.Nat.{le-antisymm}
 use native.Mathlib.Omega.{arith}
-use lib.ListN.{length, getD}
+use lib.ListN.{getD}
 use lib.Pow.{pow-pos}
-use Rattle.defs.specs.Field.{Width, add, mul}
+use Rattle.defs.specs.Field.{add, mul}
 use Rattle.theory.proofs.Field.{add-lt, mul-lt}
 use Rattle.theory.proofs.Generator.{one-lt}
 use Rattle.field.specs.Arithmetic.{Products}

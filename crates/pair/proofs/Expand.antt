@@ -1,6 +1,6 @@
 -- An equation is the product of its row and the unknowns.
 -- Assumes nothing.
-use Prim.Native.Nat.{ℕ, zero, suc, _+_, _-_, _^_, _<_, min}
+use Prim.Native.Nat.{ℕ, zero, suc, _+_, _-_, _<_, min}
 use mathlib.Core.Path.{_≡_, refl, ap, ap₂, sym, _∙_}
 use mathlib.Core.List.{List, [], _∷_}
 use native.Mathlib.Nat.{suc-add, zero-add}
@@ -12,8 +12,8 @@ use Rattle.defs.specs.Row.{sum, coefficient}
 use Rattle.defs.specs.Distance.{symbol}
 use Rattle.defs.specs.Pair.{mixed}
 use Rattle.theory.specs.Poly.{h}
-use Rattle.theory.proofs.Field.{sums, ring, add-assoc, 0-add, 0-mul, mul-assoc, mul-comm, one-mul-of-lt}
-use Rattle.theory.proofs.Sum.{sum-suc, sum-ext, sum-add, sum-zero, sum-scale}
+use Rattle.theory.proofs.Field.{ring, add-assoc, 0-add, mul-assoc, mul-comm, one-mul-of-lt}
+use Rattle.theory.proofs.Sum.{sum-ext, sum-add, sum-zero, sum-scale}
 use Rattle.theory.proofs.Formula.{coefficient-h}
 use Rattle.pair.specs.Equation.{deeper, powerAt, mixedAt, Equation}
 

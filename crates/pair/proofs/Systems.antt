@@ -1,6 +1,6 @@
 -- The equations of all chunks, one chunk after another, and the numbers of a checked code behind them.
 -- Assumes nothing.
-use Prim.Native.Nat.{ℕ, suc, _+_, _*_, _-_, _^_, _<_, _≤_}
+use Prim.Native.Nat.{ℕ, _+_, _*_, _-_, _<_, _≤_}
 use mathlib.Core.Path.{_≡_, refl, ap, sym, subst, _∙_}
 use mathlib.Core.Logic.{⊎-elim}
 use mathlib.Core.List.{List}
@@ -11,7 +11,6 @@ use lib.Seq.{getD-take, getD-drop}
 use lib.Pow.{pow-pos}
 use Rattle.defs.specs.Field.{Width}
 use Rattle.defs.specs.Place.{Symbols}
-use Rattle.defs.specs.Distance.{symbol}
 use Rattle.defs.specs.declared.Code.{Code}
 use Rattle.theory.specs.Limits.{Numbers}
 use Rattle.theory.proofs.Limits.{inside-known}
