@@ -14,7 +14,7 @@ use Rattle.defs.specs.declared.Refusal.the-variants.{Field, Depth, Points, Dime
 use Rattle.defs.specs.declared.Verdict.the-variants.{Fine, Refused}
 use Rattle.theory.proofs.Limits.{width-known}
 
-size-top : (m : ℕ) → Width m → 2 ^ m ≤ 256
+pub size-top : (m : ℕ) → Width m → 2 ^ m ≤ 256
 size-top m (inl e) = rw e (lit≤ tt)
 size-top m (inr (inl e)) = rw e (lit≤ tt)
 size-top m (inr (inr e)) = rw e (lit≤ tt)

@@ -4,12 +4,6 @@ use borrow.Author.Needs.{needs}
 use Rattle.field.proofs.mul.Statement.{statement}
 use Rattle.field.proofs.mul.Tie as tie
 
-returns : tie.Need-returns
-returns c = zero-l _ _ _ (c .if1 .taken)
-
-returns-2 : tie.Need-returns-2
-returns-2 c = zero-r _ _ _ (c .if2 .taken)
-
 log-requires : tie.Need-log-requires
 log-requires c κs = search needs
 
@@ -27,6 +21,12 @@ add-exp c = search needs
 
 exp-requires : tie.Need-exp-requires
 exp-requires c κs = search needs
+
+returns : tie.Need-returns
+returns c = zero-l _ _ _ (c .if1 .taken)
+
+returns-2 : tie.Need-returns-2
+returns-2 c = zero-r _ _ _ (c .if2 .taken)
 
 returns-3 : tie.Need-returns-3
 returns-3 c =

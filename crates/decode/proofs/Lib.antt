@@ -1,0 +1,4 @@
+-- What the proofs of the functions cite.
+pub mod Division
+pub mod Outcome
+pub mod Search

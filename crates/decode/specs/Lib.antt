@@ -1,0 +1,3 @@
+-- What the steps of decode say.
+pub mod Quotient
+pub mod Search

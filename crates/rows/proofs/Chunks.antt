@@ -1,0 +1,76 @@
+-- What stands in a chunk, and how its agreement with another grows symbol by symbol.
+-- Assumes nothing.
+use Prim.Native.Nat.{ℕ, _+_, _<_, _≤_}
+use mathlib.Core.Path.{_≡_, refl, ap, sym, _∙_}
+use mathlib.Core.List.{List}
+use native.Mathlib.Decide.{decLt}
+use native.Mathlib.Omega.{arith}
+use lib.ListN.{length, getD, drop, set, replicate, List·getD-append}
+use Rattle.defs.specs.Place.{tab}
+use Rattle.defs.specs.Limits.{deepest}
+use Rattle.defs.specs.Distance.{agree}
+use Rattle.theory.specs.Fill.{filled}
+use Rattle.theory.proofs.Fill.{filled-none, filled-next, filled-front}
+use Rattle.theory.proofs.Place.{length-tab, getD-tab}
+use Rattle.theory.proofs.Agree.{agree-le, agree-eq, agree-max}
+use Rattle.rows.specs.Chunk.{blank, chunkOf}
+
+pub length-blank : length blank ≡ deepest
+unfolding blank
+length-blank = refl
+
+pub chunk-at : (r : ℕ) (F : ℕ → ℕ) (j : ℕ) → j < r → getD (chunkOf r F) j 0 ≡ F j
+unfolding chunkOf
+chunk-at r F j l = List·getD-append (tab F r) (drop r blank) 0 j (omega (arith, length-tab F r)) ∙ getD-tab F r j l
+
+-- a chunk whose first j symbols are written
+unfoldable pub begun : ℕ → (ℕ → ℕ) → List ℕ
+begun j F = filled blank 0 F j
+
+module _ (F : ℕ → ℕ) where
+  pub chunk-first : replicate deepest 0 ≡ begun 0 F
+  unfolding begun blank
+  chunk-first = filled-none (replicate deepest 0) 0 F
+
+  pub chunk-more : (chunk : List ℕ) (j x : ℕ) → j < deepest → chunk ≡ begun j F → x ≡ F j → set chunk j x ≡ begun (j + 1) F
+  unfolding begun
+  chunk-more chunk j x l e f = rw (e, f) (filled-next blank F j (omega (arith, length-blank)))
+
+  pub chunk-last : (chunk : List ℕ) (r j : ℕ) → chunk ≡ begun j F → j ≤ r → r ≤ j → chunk ≡ chunkOf r F
+  unfolding begun chunkOf
+  chunk-last chunk r j e l h = let q : j ≡ r = omega arith in e ∙ ap (filled blank 0 F) q ∙ filled-front blank F r
+
+module _ (u v : ℕ → ℕ) where
+  pub agree-none : 0 ≡ agree 0 u v
+  agree-none = omega (arith, agree-le 0 u v)
+
+  module _ (j : ℕ) where
+    grows : agree j u v ≤ agree (j + 1) u v
+    grows = agree-max (j + 1) (agree j u v) u v (omega (arith, agree-le j u v)) (λ i l. agree-eq j u v i l)
+
+    -- the symbols before j agree, and so do those at j
+    pub agree-more : agree j u v ≡ j → u j ≡ v j → j + 1 ≡ agree (j + 1) u v
+    agree-more e h = let l : j + 1 ≤ agree (j + 1) u v = agree-max (j + 1) (j + 1) u v (omega arith) all in omega (arith, agree-le (j + 1) u v)
+      where
+        all : (i : ℕ) → i < j + 1 → u i ≡ v i
+        all i l = go (decLt i j)
+          where
+            go : Dec (i < j) → u i ≡ v i
+            go (yes k) = agree-eq j u v i (omega (arith, e))
+            go (no k) = let q : i ≡ j = omega arith in ap u q ∙ h ∙ ap v (sym q)
+
+    -- they agree, and those at j do not
+    pub agree-stops : agree j u v ≡ j → (u j ≡ v j → ⊥) → agree j u v ≡ agree (j + 1) u v
+    agree-stops e h = go (decLt j (agree (j + 1) u v))
+      where
+        go : Dec (j < agree (j + 1) u v) → agree j u v ≡ agree (j + 1) u v
+        go (yes k) = absurd (h (agree-eq (j + 1) u v j k))
+        go (no k) = omega (arith, e, grows)
+
+    -- they have parted before
+    pub agree-stays : (agree j u v ≡ j → ⊥) → agree j u v ≡ agree (j + 1) u v
+    agree-stays n = go (decLt (agree j u v) (agree (j + 1) u v))
+      where
+        go : Dec (agree j u v < agree (j + 1) u v) → agree j u v ≡ agree (j + 1) u v
+        go (yes k) = absurd (omega (arith, agree-max j (agree j u v + 1) u v (omega (arith, agree-le j u v, n)) (λ i l. agree-eq (j + 1) u v i (omega arith))))
+        go (no k) = omega (arith, grows)

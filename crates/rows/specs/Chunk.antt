@@ -1,0 +1,56 @@
+-- Chunks of eight symbols, unused ones zero, and what the functions on chunks and rows are given.
+use Prim.Native.Nat.{ℕ, _+_, _*_, _^_, _<_, _≤_}
+use mathlib.Core.Path.{_≡_}
+use mathlib.Core.List.{List, _++_}
+use lib.ListN.{length, drop, replicate}
+use Rattle.defs.specs.Field.{Width}
+use Rattle.defs.specs.Place.{tab, Symbols}
+use Rattle.defs.specs.Row.{Message}
+use Rattle.defs.specs.Limits.{deepest, longest}
+use Rattle.defs.specs.declared.Code.{Code}
+use Rattle.field.specs.Arithmetic.{Parities, Products}
+use Rattle.code.specs.Checked.{IsCode}
+
+unfoldable pub blank : List ℕ
+blank = replicate deepest 0
+
+-- the chunk F 0, F 1, .., F (r - 1)
+unfoldable pub chunkOf : ℕ → (ℕ → ℕ) → List ℕ
+chunkOf r F = tab F r ++ drop r blank
+
+-- a message f of symbols is evaluated at a point, to depth r
+pub record Evaluable (m r P : ℕ) (f parities : List ℕ) : Type 0 where
+  pub width : Width m
+  pub depth : r ≤ deepest
+  pub point : P < 2 ^ m
+  pub symbols : Symbols m f
+  pub short : length f ≤ longest
+  pub parity : Parities parities
+
+-- the same with the products by the point, for the coefficient j alone
+pub record Tables (m P j : ℕ) (f products parities : List ℕ) : Type 0 where
+  pub width : Width m
+  pub depth : j < deepest
+  pub symbols : Symbols m f
+  pub short : length f ≤ longest
+  pub product : Products m P products
+  pub parity : Parities parities
+
+-- the row of a message f of the code is to be written over another
+pub record Writable (c : Code) (f row : List ℕ) : Type 0 where
+  pub code : IsCode c
+  pub message : Message (c .m) (c .k) f
+  pub room : length row ≡ c .r * c .count
+
+-- two rows both have a chunk i
+pub record Chunks (r : ℕ) (u w : List ℕ) (i : ℕ) : Type 0 where
+  pub depth : r ≤ deepest
+  pub left : i * r + r ≤ length u
+  pub right : i * r + r ≤ length w
+
+-- two rows both have count chunks
+pub record Rows (r count : ℕ) (u w : List ℕ) : Type 0 where
+  pub depth : r ≤ deepest
+  pub few : count ≤ longest
+  pub left : count * r ≤ length u
+  pub right : count * r ≤ length w

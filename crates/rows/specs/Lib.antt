@@ -1,0 +1,2 @@
+-- Chunks, and what the functions on rows are given.
+pub mod Chunk

@@ -1,0 +1,201 @@
+// Chunks, handed about whole; the rows that are made of them; the calls encode and distance.
+ghost use mathlib.Core.Path.{_≡_};
+ghost use Prim.Native.Nat.{_+_, _*_, _<_, _≤_};
+ghost use lib.ListN.{length, getD};
+ghost use Rattle.defs.specs.Row.{coefficient, rowOf};
+ghost use Rattle.defs.specs.Distance.{agree, damage, distance};
+ghost use Rattle.defs.specs.Limits.{deepest};
+ghost use Rattle.defs.specs.Encode.{Encoded, distanceVerdict, distanceAnswer};
+ghost use Rattle.theory.specs.Fill.{filled};
+ghost use Rattle.code.specs.Checked.{pointsOf};
+ghost use Rattle.rows.specs.Chunk.{chunkOf, Evaluable, Tables, Writable, Chunks, Rows};
+use code::DEEPEST;
+use defs::Answer;
+use defs::Code;
+use defs::LONGEST;
+use defs::Refusal;
+use defs::Verdict;
+
+// One Hasse coefficient of a message at a point, by Horner's rule; products are those by the point.
+fn coefficient(
+    m: usize,
+    point: u8,
+    j: usize,
+    message: &[u8],
+    products: &[u8; 256],
+    parities: &[u8; 1024],
+) -> u8
+    requires { ⌜ Tables m point j (now message) (now products) (now parities) ⌝ }
+    ensures { λ c. ⌜ c ≡ coefficient m (now (message .entry)) point j ⌝ }
+{
+    let mut sum: u8 = 0;
+    let mut i = message.len();
+    while j < i {
+        i -= 1;
+        sum = products[sum as usize] ^ parities[i * DEEPEST + j] * message[i];
+    }
+    sum
+}
+
+// The chunk of a message at a point: its first r Hasse coefficients.
+pub fn evaluate(m: usize, r: usize, point: u8, message: &[u8], parities: &[u8; 1024]) -> [u8; 8]
+    requires { ⌜ Evaluable m r point (now message) (now parities) ⌝ }
+    ensures { λ a. ⌜ a ≡ chunkOf r (coefficient m (now (message .entry)) point) ⌝ }
+{
+    let products = field::product_row(m, point);
+    let mut chunk = [0u8; 8];
+    let mut j = 0;
+    while j < r {
+        chunk[j] = coefficient(m, point, j, message, &products, parities);
+        j += 1;
+    }
+    chunk
+}
+
+// The chunk that stands in a row from an index on.
+pub fn chunk_of(s: &[u8], at: usize, r: usize) -> [u8; 8]
+    requires { ⌜ (r ≤ deepest) × (at + r ≤ length (now s)) ⌝ }
+    ensures { λ a. ⌜ a ≡ chunkOf r (λ j. getD (now (s .entry)) (at + j) 0) ⌝ }
+{
+    let mut chunk = [0u8; 8];
+    let mut j = 0;
+    while j < r {
+        chunk[j] = s[at + j];
+        j += 1;
+    }
+    chunk
+}
+
+// The depth to which two chunks agree: s stays behind at the first symbol that differs.
+pub fn agree(a: [u8; 8], b: [u8; 8], r: usize) -> usize
+    requires { ⌜ r ≤ deepest ⌝ }
+    ensures { λ s. ⌜ s ≡ agree r (λ j. getD a j 0) (λ j. getD b j 0) ⌝ }
+{
+    let mut s = 0;
+    let mut j = 0;
+    while j < r {
+        if s == j {
+            if a[j] == b[j] {
+                s += 1;
+            }
+        }
+        j += 1;
+    }
+    s
+}
+
+// Writes a chunk into a row.
+fn store(row: &mut [u8], at: usize, r: usize, chunk: [u8; 8])
+    requires { ⌜ (r ≤ deepest) × (at + r ≤ length (now row)) ⌝ }
+    ensures { λ _. ⌜ now (row .exit) ≡ filled (now (row .entry)) at (λ j. getD chunk j 0) r ⌝ }
+{
+    let mut j = 0;
+    while j < r {
+        row[at + j] = chunk[j];
+        j += 1;
+    }
+}
+
+// Writes the row of a message. at is the chunk's index in the row.
+pub fn write_row(code: Code, message: &[u8], row: &mut [u8])
+    requires { ⌜ Writable code (now message) (now row) ⌝ }
+    ensures { λ _. ⌜ now (row .exit) ≡ rowOf (code .m) (code .r) (pointsOf code) (now (message .entry)) ⌝ }
+{
+    let parities = field::parities();
+    let points = code.points;
+    let m = code.m;
+    let r = code.r;
+    let count = code.count;
+    let mut at = 0;
+    let mut i = 0;
+    while i < count {
+        store(row, at, r, evaluate(m, r, points[i], message, &parities));
+        at += r;
+        i += 1;
+    }
+}
+
+// The depth of damage in chunk i of two rows.
+pub fn chunk_damage(r: usize, a: &[u8], b: &[u8], i: usize) -> usize
+    requires { ⌜ Chunks r (now a) (now b) i ⌝ }
+    ensures { λ d. ⌜ d ≡ damage r (now (a .entry)) (now (b .entry)) i ⌝ }
+{
+    let at = i * r;
+    let x = chunk_of(a, at, r);
+    let y = chunk_of(b, at, r);
+    r - agree(x, y, r)
+}
+
+// The distance of two rows of count chunks.
+pub fn row_distance(r: usize, count: usize, a: &[u8], b: &[u8]) -> usize
+    requires { ⌜ Rows r count (now a) (now b) ⌝ }
+    ensures { λ d. ⌜ d ≡ distance r count (now (a .entry)) (now (b .entry)) ⌝ }
+{
+    let mut sum = 0;
+    let mut i = 0;
+    while i < count {
+        sum += chunk_damage(r, a, b, i);
+        i += 1;
+    }
+    sum
+}
+
+// 2 and 7, on the lengths of two rows.
+fn check_lengths(r: usize, n: usize, other: usize) -> Verdict
+    ensures { λ v. ⌜ v ≡ distanceVerdict r n other ⌝ }
+{
+    if r == 0 {
+        return Verdict::Refused(Refusal::Depth);
+    }
+    if DEEPEST < r {
+        return Verdict::Refused(Refusal::Depth);
+    }
+    if n != other {
+        return Verdict::Refused(Refusal::Length);
+    }
+    if n == 0 {
+        return Verdict::Refused(Refusal::Length);
+    }
+    if LONGEST < n {
+        return Verdict::Refused(Refusal::Length);
+    }
+    if n % r != 0 {
+        return Verdict::Refused(Refusal::Length);
+    }
+    Verdict::Fine
+}
+
+// The distance of two rows of any bytes.
+pub fn distance(r: usize, a: &[u8], b: &[u8]) -> Answer
+    ensures { λ d. ⌜ d ≡ distanceAnswer r (now (a .entry)) (now (b .entry)) ⌝ }
+{
+    let v = check_lengths(r, a.len(), b.len());
+    if let Verdict::Refused(x) = v {
+        return Answer::Refused(x);
+    }
+    Answer::Done(row_distance(r, a.len() / r, a, b))
+}
+
+// Writes the row of a message, or refuses and leaves the buffer as it was.
+pub fn encode(m: usize, r: usize, k: usize, points: &[u8], message: &[u8], row: &mut [u8]) -> Answer
+    ensures { λ a. ⌜ Encoded m r k (now (points .entry)) (now (message .entry)) (now (row .entry)) a (now (row .exit)) ⌝ }
+{
+    let checked = code::check_code(m, r, k, points);
+    let v = checked.verdict;
+    if let Verdict::Refused(x) = v {
+        return Answer::Refused(x);
+    }
+    if message.len() != k {
+        return Answer::Refused(Refusal::Length);
+    }
+    if row.len() != r * points.len() {
+        return Answer::Refused(Refusal::Length);
+    }
+    let s = code::check_symbols(m, message);
+    if let Verdict::Refused(x) = s {
+        return Answer::Refused(x);
+    }
+    let code = checked.code;
+    write_row(code, message, row);
+    Answer::Done(0)
+}
