@@ -38,7 +38,7 @@ fn divide_at(m: usize, v: u8, q: &[u8], c: usize, at: usize, rem: &mut [u8]) -> 
     let a = field::mul(m, rem[at + (c - 1)], v);
     let products = field::product_row(m, a);
     take_off(&products, q, c, at, rem);
-    a
+    a // the coefficient found
 }
 
 // The quotient of k coefficients, from the top down.
