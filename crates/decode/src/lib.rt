@@ -3,7 +3,6 @@ ghost use mathlib.Core.Path.{_≡_};
 ghost use Prim.Native.Nat.{_≤_};
 ghost use lib.ListN.{length};
 ghost use Rattle.defs.specs.Field.{Width};
-ghost use Rattle.defs.specs.Distance.{radius};
 ghost use Rattle.defs.specs.Decode.{Decoded};
 ghost use Rattle.code.specs.Checked.{IsCode};
 ghost use Rattle.rows.specs.Chunk.{Rows};
@@ -14,13 +13,6 @@ use defs::Code;
 use defs::LONGEST;
 use defs::Refusal;
 use defs::Verdict;
-
-fn radius(n: usize, k: usize) -> usize
-    requires { ⌜ k ≤ n ⌝ }
-    ensures { λ t. ⌜ t ≡ radius n k ⌝ }
-{
-    (n - k) / 2
-}
 
 // The row of a message of the code, of n symbols.
 fn row_of(code: Code, message: [u8; LONGEST], n: usize) -> [u8; LONGEST]
@@ -60,7 +52,7 @@ fn seek(code: Code, row: &[u8]) -> Sought
 {
     let n = row.len();
     let k = code.k;
-    let reach = radius(n, k);
+    let reach = pair::radius(n, k);
     let paired = pair::find_pair(code, row);
     let v = paired.verdict;
     if let Verdict::Refused(_) = v {
