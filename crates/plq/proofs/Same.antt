@@ -1,0 +1,2 @@
+-- One outcome: two packed answers that a call's contract allows are equal, and so are the buffers.
+-- Assumes nothing.
