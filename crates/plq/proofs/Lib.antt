@@ -2,3 +2,4 @@
 pub mod Verdicts
 pub mod Small
 pub mod Same
+pub mod Unpacked
