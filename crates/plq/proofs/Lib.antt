@@ -1,0 +1,5 @@
+-- What the proofs of the functions for C rest on.
+pub mod Verdicts
+pub mod Small
+pub mod Same
+pub mod Unpacked

@@ -1,0 +1,50 @@
+-- One outcome: two packed answers that a call's contract allows are equal, and so are the buffers.
+-- Assumes nothing.
+use Prim.Native.Nat.{ℕ}
+use mathlib.Core.Path.{_≡_, ap, sym, _∙_}
+use mathlib.Core.List.{List}
+use Rattle.defs.specs.Encode.{distanceAnswer}
+use Rattle.defs.specs.Decode.{Decoded}
+use Rattle.defs.specs.declared.Answer.{Answer}
+use Rattle.slip.proofs.Outcome.{written-same, read-same}
+use Rattle.line.proofs.Outcomes.{lined-unique}
+use Rattle.plq.specs.Packed.{packed, Packs, PackedEncoded, PackedDecoded, PackedWritten, PackedRead, PackedLined}
+
+-- equal answers are packed alike
+packs-same : {A : Type 0} {pack : A → ℕ} {C C′ : A → Type 0} {p q : ℕ} (x : Packs pack C p) (y : Packs pack C′ q) → x .answer ≡ y .answer → p ≡ q
+packs-same {pack = pack} x y e = x .packs ∙ ap pack e ∙ sym (y .packs)
+
+pub packed-encode-same : {m r k : ℕ} {points message row : List ℕ} {p q : ℕ} {s t : List ℕ}
+    → PackedEncoded m r k points message row p s → PackedEncoded m r k points message row q t → (p ≡ q) × (s ≡ t)
+packed-encode-same x y = (packs-same x y (x .call .answers ∙ sym (y .call .answers)), x .call .leaves ∙ sym (y .call .leaves))
+
+-- one is that decode itself has one outcome
+module _ (m r k : ℕ) (points w message depth : List ℕ)
+    (one : (a b : Answer) (s t u v : List ℕ) → Decoded m r k points w message depth a s t → Decoded m r k points w message depth b u v
+    → (a ≡ b) × (s ≡ u) × (t ≡ v)) where
+  pub packed-decode-same : (p q : ℕ) (s t u v : List ℕ) → PackedDecoded m r k points w message depth p s t
+      → PackedDecoded m r k points w message depth q u v → (p ≡ q) × (s ≡ u) × (t ≡ v)
+  packed-decode-same p q s t u v x y =
+      let e = one (x .answer) (y .answer) s t u v (x .call) (y .call) in
+      (packs-same x y (e .0), e .1, e .2)
+
+pub packed-distance-same : (r : ℕ) (u w : List ℕ) {p q : ℕ} → p ≡ packed (distanceAnswer r u w) → q ≡ packed (distanceAnswer r u w) → p ≡ q
+packed-distance-same r u w x y = x ∙ sym y
+
+pub packed-write-same : {m r k : ℕ} {points w bytes : List ℕ} {p q : ℕ} {s t : List ℕ}
+    → PackedWritten m r k points w bytes p s → PackedWritten m r k points w bytes q t → (p ≡ q) × (s ≡ t)
+packed-write-same x y =
+    let e = written-same (x .call) (y .call) in
+    (packs-same x y (e .0), e .1)
+
+pub packed-read-same : {bytes points row : List ℕ} {p q : ℕ} {s t u v : List ℕ}
+    → PackedRead bytes points row p s t → PackedRead bytes points row q u v → (p ≡ q) × (s ≡ u) × (t ≡ v)
+packed-read-same x y =
+    let e = read-same (x .call) (y .call) in
+    (packs-same x y (e .0), e .1, e .2)
+
+pub packed-line-same : {bytes buffer : List ℕ} {p q : ℕ} {s t : List ℕ}
+    → PackedLined bytes buffer p s → PackedLined bytes buffer q t → (p ≡ q) × (s ≡ t)
+packed-line-same {bytes} {buffer} {s = s} {t = t} x y =
+    let e = lined-unique bytes buffer (x .answer) (y .answer) s t (x .call) (y .call) in
+    (packs-same x y (e .0), e .1)

@@ -1,0 +1,134 @@
+-- Every answer that a call may give is small enough to be packed.
+-- Assumes nothing.
+use Prim.Native.Nat.{ℕ, _+_, _/_, _^_, _<_}
+use mathlib.Core.Path.{_≡_, refl}
+use mathlib.Core.List.{List}
+use native.Mathlib.Nat.{mul-le-mul}
+use native.Mathlib.Omega.{arith}
+use lib.Dec.{lit<}
+use lib.ListN.{length}
+use Rattle.defs.specs.Refusal.{numberOf, number, detail, answer}
+use Rattle.defs.specs.Distance.{radius}
+use Rattle.defs.specs.Limits.{deepest, longest}
+use Rattle.defs.specs.Encode.{encodeVerdict, distanceVerdict, distanceAnswer, Encoded}
+use Rattle.defs.specs.Decode.{Decoded, refused, found, none}
+use Rattle.defs.specs.Slip.{widthIn}
+use Rattle.defs.specs.Write.{writeVerdict, Written}
+use Rattle.defs.specs.Read.{readVerdict, reading, Read}
+use Rattle.defs.specs.Line.{lineVerdict, Lined}
+use Rattle.defs.specs.declared.Refusal.{Refusal}
+use Rattle.defs.specs.declared.Refusal.the-variants.{Field, Depth, Points, Dimension, PointHigh, PointTwice, Length, SymbolHigh, TooFar, SlipShort, Edition, SlipLong}
+use Rattle.defs.specs.declared.Verdict.{Verdict}
+use Rattle.defs.specs.declared.Verdict.the-variants.{Fine, Refused}
+use Rattle.defs.specs.declared.Answer.{Answer}
+use Rattle.defs.specs.declared.Answer.the-variants.{Done, Refused as No}
+use Rattle.defs.specs.declared.SlipRead.{SlipRead}
+use Rattle.theory.proofs.Limits.{then-fine, inside-known}
+use Rattle.theory.proofs.Checks.{decode-known}
+use Rattle.theory.proofs.Distance.{distance-agreement}
+use Rattle.rows.proofs.Outcome.{distance-rows}
+use Rattle.slip.proofs.Width.{width-top}
+use Rattle.slip.proofs.Writer.{inside-width, writable, few, size-top}
+use Rattle.slip.proofs.Reader.{Sound, sound, points-few}
+use Rattle.line.proofs.Lines.{line-short}
+use Rattle.plq.specs.Packed.{Narrow}
+use Rattle.plq.proofs.Verdicts.{Small, encode-small, decode-small, write-small, distance-small, read-small, line-small}
+
+refusal-small : (x : Refusal) → numberOf x < 2 ^ 8
+refusal-small Field = lit< tt
+refusal-small Depth = lit< tt
+refusal-small Points = lit< tt
+refusal-small Dimension = lit< tt
+refusal-small (PointHigh i) = lit< tt
+refusal-small (PointTwice i) = lit< tt
+refusal-small Length = lit< tt
+refusal-small (SymbolHigh i) = lit< tt
+refusal-small TooFar = lit< tt
+refusal-small SlipShort = lit< tt
+refusal-small Edition = lit< tt
+refusal-small SlipLong = lit< tt
+
+pub number-small : (a : Answer) → number a < 2 ^ 8
+number-small (Done d) = lit< tt
+number-small (No x) = refusal-small x
+
+-- ---- the details
+
+refused-small : (x : Refusal) → Small (Refused x) → detail (No x) < 2 ^ 8
+unfolding answer
+refused-small x s = s .place
+
+answer-small : (v : Verdict) (d : ℕ) (a : Answer) → a ≡ answer v d → Small v → (v ≡ Fine → d < 2 ^ 16) → detail a < 2 ^ 16
+unfolding answer
+answer-small Fine d a e s h = rw e (h refl)
+answer-small (Refused x) d a e s h = rw e (omega (arith, refused-small x s))
+
+pub encoded-small : {m r k : ℕ} {points message row : List ℕ} {a : Answer} {row′ : List ℕ}
+    → Encoded m r k points message row a row′ → detail a < 2 ^ 16
+encoded-small {m} {r} {k} {points} {message} {row} {a} x =
+    answer-small (encodeVerdict m r k points message (length row)) 0 a (x .answers)
+    (encode-small m r k points message (length row)) (λ fine. lit< tt)
+
+pub decoded-small : {m r k : ℕ} {points w message depth : List ℕ} {a : Answer} {message′ depth′ : List ℕ}
+    → Decoded m r k points w message depth a message′ depth′ → detail a < 2 ^ 16
+unfolding radius
+decoded-small {m} {r} {k} {points} {w} {message} {depth} (refused x v e _ _) =
+    let s : Small (Refused x) = rw v at (decode-small m r k points w (length message) (length depth)) in
+    rw e (omega (arith, refused-small x s))
+decoded-small {m} {r} {k} {points} {w} (found f v near e _ _) =
+    let inside = decode-known m r k points w _ _ v .0 in
+    rw e (omega (arith, near .within, inside-known m r k points inside .numbers .row-top))
+decoded-small (none v far e _ _) = rw e (lit< tt)
+
+-- no distance is more than the symbols of its chunks
+pub distance-detail : (r : ℕ) (u w : List ℕ) (a : Answer) → a ≡ distanceAnswer r u w → detail a < 2 ^ 16
+unfolding distanceAnswer
+distance-detail r u w a e =
+    answer-small (distanceVerdict r (length u) (length w)) _ a e (distance-small r (length u) (length w))
+    (λ fine. let rows = distance-rows r u w fine in
+    omega (
+      arith,
+      distance-agreement r (length u / r) u w,
+      mul-le-mul {n₁ = r} {m₁ = length u / r} {n₂ = deepest} {m₂ = longest} (rows .depth) (rows .few),
+    ))
+
+pub written-small : {m r k : ℕ} {points w bytes : List ℕ} {a : Answer} {bytes′ : List ℕ}
+    → Written m r k points w bytes a bytes′ → detail a < 2 ^ 16
+written-small {m} {r} {k} {points} {w} {bytes} {a} x =
+    answer-small (writeVerdict m r k points w (length bytes)) _ a (x .answers) (write-small m r k points w (length bytes))
+    (λ fine. let y = writable m r k points w _ fine in
+    omega (arith, size-top m (length points + length w) (inside-width m r k points (y .inside)) (few m r k points w (y .inside) (y .row))))
+
+pub lined-small : {bytes buffer : List ℕ} {a : Answer} {buffer′ : List ℕ} → Lined bytes buffer a buffer′ → detail a < 2 ^ 16
+lined-small {bytes} {buffer} {a} x =
+    answer-small (lineVerdict (x .text) (length buffer)) _ a (x .answers) (line-small (x .text) (length buffer))
+    (λ fine. omega (arith, line-short bytes (x .text) (x .is-line)))
+
+-- ---- the reader
+
+read-sound : (bytes : List ℕ) (count n : ℕ) → readVerdict bytes count n ≡ Fine → Sound bytes
+unfolding readVerdict
+read-sound bytes count n e = sound bytes (then-fine _ _ e .0)
+
+reading-narrow : (v : Verdict) (bytes : List ℕ) → Small v → (v ≡ Fine → Sound bytes) → Narrow (reading v bytes)
+unfolding reading
+reading-narrow Fine bytes s h =
+    let x = h refl in
+    record {
+      m-fits = omega (arith, width-top (widthIn bytes) (x .numbers .width));
+      r-fits = omega (arith, x .numbers .r-top);
+      count-fits = omega (arith, points-few bytes x);
+      k-fits = omega (arith, x .numbers .k-top, x .numbers .row-top);
+      detail-fits = lit< tt;
+    }
+reading-narrow (Refused y) bytes s h = record {
+  m-fits = lit< tt;
+  r-fits = lit< tt;
+  count-fits = lit< tt;
+  k-fits = lit< tt;
+  detail-fits = refused-small y s;
+}
+
+pub read-narrow : {bytes points row : List ℕ} {s : SlipRead} {points′ row′ : List ℕ} → Read bytes points row s points′ row′ → Narrow s
+read-narrow {bytes} {points} {row} x =
+    rw (x .answers) (reading-narrow _ bytes (read-small bytes (length points) (length row)) (read-sound bytes _ _))

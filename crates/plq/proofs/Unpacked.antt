@@ -1,0 +1,38 @@
+-- What is packed can be read back: no part of an answer runs into another. These are the macros of include/plq.h.
+-- Assumes nothing.
+use Prim.Native.Nat.{ℕ, _/_, _%_, _^_}
+use mathlib.Core.Path.{_≡_}
+use mathlib.Core.List.{List}
+use native.Mathlib.Omega.{arith}
+use Rattle.defs.specs.Refusal.{number, detail}
+use Rattle.defs.specs.Read.{Read}
+use Rattle.defs.specs.declared.Answer.{Answer}
+use Rattle.defs.specs.declared.SlipRead.{SlipRead}
+use Rattle.plq.specs.Packed.{packed, packedRead}
+use Rattle.plq.proofs.Small.{number-small, read-narrow}
+
+pub unpacked : (a : Answer) → (packed a % 2 ^ 8 ≡ number a) × (packed a / 2 ^ 8 ≡ detail a)
+unpacked a = (omega (arith, number-small a), omega (arith, number-small a))
+
+-- the parts of a number that packs what the slip reader answers
+pub record Unpacked (p : ℕ) (s : SlipRead) : Type 0 where
+  pub number-is : p % 2 ^ 8 ≡ number (s .answer)
+  pub m-is : p / 2 ^ 8 % 2 ^ 8 ≡ s .m
+  pub r-is : p / 2 ^ 16 % 2 ^ 8 ≡ s .r
+  pub count-is : p / 2 ^ 24 % 2 ^ 8 ≡ s .count
+  pub k-is : p / 2 ^ 32 % 2 ^ 8 ≡ s .k
+  pub detail-is : p / 2 ^ 40 % 2 ^ 8 ≡ detail (s .answer)
+
+pub read-unpacked : {bytes points row : List ℕ} {s : SlipRead} {points′ row′ : List ℕ}
+    → Read bytes points row s points′ row′ → Unpacked (packedRead s) s
+read-unpacked {s = s} x =
+    let n = read-narrow x in
+    let l = number-small (s .answer) in
+    record {
+      number-is = omega arith;
+      m-is = omega arith;
+      r-is = omega arith;
+      count-is = omega arith;
+      k-is = omega arith;
+      detail-is = omega arith;
+    }
