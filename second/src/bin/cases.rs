@@ -13,8 +13,9 @@ use std::process::ExitCode;
 
 const USUAL_SEED: u64 = 7;
 const RANDOM_CASES: usize = 5_000;
-/// No file of cases is longer, and no slice in it: the program that runs them has no more room.
+/// No file of cases is longer.
 const MOST_BYTES: usize = 450_000;
+/// No slice is longer: the program that runs the cases has room for so many bytes.
 const LONGEST_SLICE: usize = 600;
 
 /// The two files, and which numbers were met in which call.
