@@ -1,4 +1,3 @@
 -- What the proofs of the functions cite.
-pub mod Division
 pub mod Outcome
 pub mod Search

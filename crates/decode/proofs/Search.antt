@@ -22,7 +22,7 @@ use Rattle.rows.specs.Chunk.{Rows}
 use Rattle.pair.specs.declared.Paired.{Paired}
 use Rattle.pair.specs.Found.{Found}
 use Rattle.pair.specs.Found as Found
-use Rattle.decode.specs.Quotient.{Dividing, Quotient}
+use Rattle.quotient.specs.Quotient.{Dividing, Quotient}
 use Rattle.decode.specs.Search.{Candidate, Sent, IsSought, within, beyond}
 use Rattle.decode.specs.declared.Sought.{Sought}
 use Rattle.decode.proofs.Outcome.{front-message}

@@ -1,3 +1,2 @@
 -- What the steps of decode say.
-pub mod Quotient
 pub mod Search

@@ -1,85 +1,18 @@
-// Decode: the quotient of a pair, what comes out measured against the row, and the call.
+// Decode: what the quotient of a pair is gets measured against the row; and the call.
 ghost use mathlib.Core.Path.{_≡_};
 ghost use Prim.Native.Nat.{_≤_};
 ghost use lib.ListN.{length};
 ghost use Rattle.defs.specs.Field.{Width};
-ghost use Rattle.defs.specs.Distance.{radius};
 ghost use Rattle.defs.specs.Decode.{Decoded};
 ghost use Rattle.code.specs.Checked.{IsCode};
 ghost use Rattle.rows.specs.Chunk.{Rows};
 ghost use Rattle.pair.specs.Found.{IsRow};
-ghost use Rattle.decode.specs.Quotient.{Terms, Fits, TakenOff, Divisible, Divided, Dividing, Quotient};
 ghost use Rattle.decode.specs.Search.{restVerdict, Candidate, Sent, IsSought, Measured};
 use defs::Answer;
 use defs::Code;
 use defs::LONGEST;
 use defs::Refusal;
 use defs::Verdict;
-
-// How many coefficients of q there are up to the highest that is not zero.
-fn terms(q: &[u8]) -> usize
-    ensures { λ c. ⌜ Terms (now (q .entry)) c ⌝ }
-{
-    let mut c = q.len();
-    while 0 < c {
-        if q[c - 1] != 0 {
-            return c;
-        }
-        c -= 1;
-    }
-    c
-}
-
-// Takes a multiple of the first c coefficients of q off rem, at places up; products has the multiples.
-fn take_off(products: &[u8; 256], q: &[u8], c: usize, at: usize, rem: &mut [u8])
-    requires { ⌜ (length (now products) ≡ 256) × Fits (now q) c at (now rem) ⌝ }
-    ensures { λ _. ⌜ TakenOff (now (products .entry)) (now (q .entry)) c at (now (rem .entry)) (now (rem .exit)) ⌝ }
-{
-    let mut i = 0;
-    while i < c {
-        rem[at + i] = rem[at + i] ^ products[q[i] as usize];
-        i += 1;
-    }
-}
-
-// The coefficient at places up of the quotient by q, which is taken off rem; v is the inverse of q's highest coefficient.
-fn divide_at(m: usize, v: u8, q: &[u8], c: usize, at: usize, rem: &mut [u8]) -> u8
-    requires { ⌜ Divisible m v (now q) c at (now rem) ⌝ }
-    ensures { λ a. ⌜ Divided m v (now (q .entry)) c at (now (rem .entry)) a (now (rem .exit)) ⌝ }
-{
-    let a = field::mul(m, rem[at + (c - 1)], v);
-    let products = field::product_row(m, a);
-    take_off(&products, q, c, at, rem);
-    a
-}
-
-// The quotient of k coefficients, from the top down.
-fn quotient(m: usize, k: usize, q0: &[u8], q1: &[u8]) -> [u8; LONGEST]
-    requires { ⌜ Dividing m k (now q0) (now q1) ⌝ }
-    ensures { λ f. ⌜ Quotient m k (now (q0 .entry)) (now (q1 .entry)) f ⌝ }
-{
-    let mut f = [0u8; LONGEST];
-    let c = terms(q1);
-    if c == 0 {
-        return f;
-    }
-    let v = field::inverse(m, q1[c - 1]);
-    let mut rem = [0u8; LONGEST];
-    code::copy(q0, &mut rem);
-    let mut at = k;
-    while 0 < at {
-        at -= 1;
-        f[at] = divide_at(m, v, q1, c, at, &mut rem);
-    }
-    f
-}
-
-fn radius(n: usize, k: usize) -> usize
-    requires { ⌜ k ≤ n ⌝ }
-    ensures { λ t. ⌜ t ≡ radius n k ⌝ }
-{
-    (n - k) / 2
-}
 
 // The row of a message of the code, of n symbols.
 fn row_of(code: Code, message: [u8; LONGEST], n: usize) -> [u8; LONGEST]
@@ -119,17 +52,17 @@ fn seek(code: Code, row: &[u8]) -> Sought
 {
     let n = row.len();
     let k = code.k;
-    let reach = radius(n, k);
+    let reach = pair::radius(n, k);
     let paired = pair::find_pair(code, row);
     let v = paired.verdict;
     if let Verdict::Refused(_) = v {
-        return nothing(Verdict::Refused(Refusal::TooFar));
+        return nothing(Verdict::Refused(Refusal::TooFar)); // no pair exists
     }
     let q0 = paired.q0;
     let q1 = paired.q1;
     let half = (n + k) / 2;
     let size = reach + 1;
-    let message = quotient(code.m, k, &q0[..half], &q1[..size]);
+    let message = quotient::quotient(code.m, k, &q0[..half], &q1[..size]);
     let sent = row_of(code, message, n);
     let d = rows::row_distance(code.r, code.count, &sent[..n], row);
     if reach < d {

@@ -113,13 +113,6 @@ tabs-joined x s₀ s₁ = record {
   second = λ a l. sym (getD-tab (λ i. x (s₀ + i)) s₁ a l);
 }
 
--- how many coefficients Q₀ and Q₁ may have
-abbrev pub unknowns₀ : Code → List ℕ → ℕ
-unknowns₀ c w = (length w + c .k) / 2
-
-abbrev pub unknowns₁ : Code → List ℕ → ℕ
-unknowns₁ c w = (length w - c .k) / 2 + 1
-
 -- n equations, and s₀ and s₁ unknowns, fit into the table
 pub record Sizes (n s₀ s₁ : ℕ) : Type 0 where
   pub top : n ≤ longest
@@ -128,24 +121,29 @@ pub record Sizes (n s₀ s₁ : ℕ) : Type 0 where
   pub top₀ : s₀ ≤ longest
   pub top₁ : s₁ ≤ longest
 
-module _ {c : Code} {w : List ℕ} (C : IsCode c) (W : IsRow c w) where
+pub enough : {c : Code} {w : List ℕ} → IsCode c → IsRow c w → c .k ≤ length w
+enough C W = omega (arith, code-numbers C .k-top, W .size)
+
+pub short : {c : Code} {w : List ℕ} → IsCode c → IsRow c w → length w ≤ longest
+short C W = omega (arith, code-numbers C .row-top, W .size)
+
+-- t is the radius
+module _ {c : Code} {w : List ℕ} (C : IsCode c) (W : IsRow c w) {t : ℕ} (e : t ≡ radius (length w) (c .k)) where
   abbrev points : List ℕ
   points = pointsOf c
 
   abbrev s₀ : ℕ
-  s₀ = unknowns₀ c w
+  s₀ = (length w + c .k) / 2
 
   abbrev s₁ : ℕ
-  s₁ = unknowns₁ c w
-
-  pub enough : c .k ≤ length w
-  enough = omega (arith, code-numbers C .k-top, W .size)
+  s₁ = t + 1
 
   pub sizes : Sizes (length w) s₀ s₁
+  unfolding radius
   sizes =
-      let e = enough in
+      let h = enough C W in
       let k = code-numbers C .k-pos in
-      let n : length w ≤ longest = omega (arith, code-numbers C .row-top, W .size) in
+      let n = short C W in
       record { top = n; small = omega arith; fits = omega arith; top₀ = omega arith; top₁ = omega arith }
 
   rows-are : length w ≡ c .r * length points
@@ -155,14 +153,13 @@ module _ {c : Code} {w : List ℕ} (C : IsCode c) (W : IsRow c w) where
   size₀ = ap (λ (n : ℕ). (n + c .k) / 2) rows-are
 
   size₁ : s₁ ≡ suc (reach (c .r) (c .k) points)
-  unfolding radius
-  size₁ = ap (λ (n : ℕ). (n - c .k) / 2 + 1) rows-are ∙ add-one _
+  size₁ = add-one t ∙ ap suc (e ∙ ap (λ (n : ℕ). radius n (c .k)) rows-are)
 
-  module _ {t : List ℕ} (S : System (c .m) (c .r) s₀ s₁ (c .count) points w t) where
-    all-rows : System (c .m) (c .r) s₀ s₁ (length points) points w t
-    all-rows = subst (λ (n : ℕ). System (c .m) (c .r) s₀ s₁ n points w t) (sym (C .counted)) S
+  module _ {table : List ℕ} (S : System (c .m) (c .r) s₀ s₁ (c .count) points w table) where
+    all-rows : System (c .m) (c .r) s₀ s₁ (length points) points w table
+    all-rows = subst (λ (n : ℕ). System (c .m) (c .r) s₀ s₁ n points w table) (sym (C .counted)) S
 
-    pub found-pair : {N : Matrix} {q₀ q₁ : List ℕ} {f : ℕ} → IsFree (c .m) (length w) (s₀ + s₁) (at t) N f
+    pub found-pair : {N : Matrix} {q₀ q₁ : List ℕ} {f : ℕ} → IsFree (c .m) (length w) (s₀ + s₁) (at table) N f
         → take s₀ q₀ ≡ tab (λ a. free N f (0 + a)) s₀ → take s₁ q₁ ≡ tab (λ a. free N f (s₀ + a)) s₁
         → Found (c .m) (c .r) (c .k) points w (record { verdict = Fine; q0 = q₀; q1 = q₁ })
     found-pair {N} {q₀} {q₁} {f} F h₀ h₁ =
@@ -170,9 +167,9 @@ module _ {c : Code} {w : List ℕ} (C : IsCode c) (W : IsRow c w) where
         (subst (λ (q : List ℕ). IsPair (c .m) (c .r) (c .k) points w q (front₁ (c .r) (c .k) points q₁)) (sym (ap (λ (n : ℕ). take n q₀) (sym size₀) ∙ h₀))
         (subst (λ (q : List ℕ). IsPair (c .m) (c .r) (c .k) points w (tab (λ a. free N f (0 + a)) s₀) q) (sym (ap (λ (n : ℕ). take n q₁) (sym size₁) ∙ h₁))
         (pair-solved (c .k) all-rows size₀ size₁ (tabs-joined (free N f) s₀ s₁) f (F .symbols) (F .below) (F .one)
-        (subst (λ (n : ℕ). Solves (c .m) (at t) n (s₀ + s₁) (free N f)) rows-are (F .solves)))))
+        (subst (λ (n : ℕ). Solves (c .m) (at table) n (s₀ + s₁) (free N f)) rows-are (F .solves)))))
 
-    pub found-none : {q₀ q₁ : List ℕ} → IsFull (c .m) (length w) (s₀ + s₁) (at t)
+    pub found-none : {q₀ q₁ : List ℕ} → IsFull (c .m) (length w) (s₀ + s₁) (at table)
         → Found (c .m) (c .r) (c .k) points w (record { verdict = Refused TooFar; q0 = q₀; q1 = q₁ })
     found-none F =
-        none refl (pair-none (c .k) all-rows size₀ size₁ (code-numbers C .r-pos) (subst (λ (n : ℕ). IsFull (c .m) n (s₀ + s₁) (at t)) rows-are F))
+        none refl (pair-none (c .k) all-rows size₀ size₁ (code-numbers C .r-pos) (subst (λ (n : ℕ). IsFull (c .m) n (s₀ + s₁) (at table)) rows-are F))

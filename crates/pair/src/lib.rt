@@ -8,10 +8,11 @@ use solve::STRIDE;
 use solve::Solved;
 use solve::TABLE;
 ghost use mathlib.Core.Path.{_≡_};
-ghost use Prim.Native.Nat.{ℕ, suc, _+_, _*_, _^_, _<_, _≤_};
+ghost use Prim.Native.Nat.{ℕ, _+_, _*_, _^_, _<_, _≤_};
 ghost use lib.ListN.{length, getD, take};
 ghost use Rattle.defs.specs.Field.{add};
 ghost use Rattle.defs.specs.Place.{tab, Symbols};
+ghost use Rattle.defs.specs.Distance.{radius as radiusOf};
 ghost use Rattle.defs.specs.Limits.{longest};
 ghost use Rattle.code.specs.Checked.{pointsOf, IsCode};
 ghost use Rattle.solve.specs.Table.{stride, tableSize, at, Shape};
@@ -20,7 +21,7 @@ ghost use Rattle.pair.specs.Equation.{deeper, powerAt};
 ghost use Rattle.pair.specs.Fill.{look, Bytes, Span, Powers, Added, Chunk, System};
 ghost use Rattle.pair.specs.Found.{IsRow, Found};
 
-// A pair, where the verdict is fine. Unused coefficients are zero.
+// A pair, where the verdict is fine: the first entries of q0 and q1 are its coefficients, as many as formula 9 allows.
 pub struct Paired {
     pub verdict: Verdict,
     pub q0: [u8; LONGEST],
@@ -166,7 +167,15 @@ fn unknowns(t: &[u8; TABLE], c: usize, first: usize, n: usize) -> [u8; LONGEST]
     q
 }
 
-// Q0 and Q1, not both zero, with the coefficients that formula 9 allows and such that at every point the first r coefficients of Q0 + w_i Q1 vanish.
+// How far a row of n symbols may be from that of a message of k.
+pub fn radius(n: usize, k: usize) -> usize
+    requires { ⌜ k ≤ n ⌝ }
+    ensures { λ t. ⌜ t ≡ radiusOf n k ⌝ }
+{
+    (n - k) / 2
+}
+
+// Q0 and Q1, not both zero, with as many coefficients as formula 9 allows, such that at every point the first r coefficients of Q0 + w_i Q1 vanish.
 pub fn find_pair(code: Code, row: &[u8]) -> Paired
     requires { ⌜ IsCode code ⌝ }
     requires { ⌜ IsRow code (now row) ⌝ }
@@ -176,7 +185,7 @@ pub fn find_pair(code: Code, row: &[u8]) -> Paired
     let k = code.k;
     let n = row.len();
     let s0 = (n + k) / 2;
-    let s1 = (n - k) / 2 + 1;
+    let s1 = radius(n, k) + 1;
     let mut table = [0u8; TABLE];
     write_system(&mut table, code, row, s0, s1);
     let Solved::Free(c) = solve::eliminate(&mut table, m, n, s0 + s1) else {

@@ -1,11 +1,11 @@
--- `decode::quotient` meets its contract: from the top down, what is left is the product of the divisor and the message's low part.
+-- `quotient::quotient` meets its contract: from the top down, what is left is the product of the divisor and the message's low part.
 use mathlib.Core.Path.{refl}
 use borrow.Author.Needs.{needs}
 use native.Mathlib.Omega.{arith}
 use Rattle.theory.proofs.Place.{zeros-symbols}
-use Rattle.decode.proofs.Division.{Going, going-first, going-turn, going-divisible, going-last, no-divisor}
-use Rattle.decode.proofs.quotient.Statement.{statement}
-use Rattle.decode.proofs.quotient.Tie as tie
+use Rattle.quotient.proofs.Division.{Going, going-first, going-turn, going-divisible, going-last, no-divisor}
+use Rattle.quotient.proofs.quotient.Statement.{statement}
+use Rattle.quotient.proofs.quotient.Tie as tie
 
 abbrev Inv-loop : tie.InvT-loop
 Inv-loop m k q0 q1 f₀ c v rem₀ at₀ f rem at = Going m k q0 q1 f rem at

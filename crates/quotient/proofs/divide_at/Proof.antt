@@ -1,8 +1,8 @@
--- `decode::divide_at` meets its contract: the coefficient is what the top of rem asks.
+-- `quotient::divide_at` meets its contract: the coefficient is what the top of rem asks.
 use borrow.Author.Needs.{needs}
-use Rattle.decode.proofs.Division.{divided}
-use Rattle.decode.proofs.divide_at.Statement.{statement}
-use Rattle.decode.proofs.divide_at.Tie as tie
+use Rattle.quotient.proofs.Division.{divided}
+use Rattle.quotient.proofs.divide_at.Statement.{statement}
+use Rattle.quotient.proofs.divide_at.Tie as tie
 
 sub-mul : tie.Need-sub-mul
 sub-mul c = search needs

@@ -1,11 +1,11 @@
--- `decode::take_off` meets its contract: the coefficients before i are taken off.
+-- `quotient::take_off` meets its contract: the coefficients before i are taken off.
 use Prim.Native.Nat.{_≤_, _-_}
 use borrow.Author.Needs.{needs}
 use native.Mathlib.Omega.{arith}
-use Rattle.decode.specs.Quotient.{TakenOff}
-use Rattle.decode.proofs.Division.{off-none, off-more, off-all}
-use Rattle.decode.proofs.take_off.Statement.{statement}
-use Rattle.decode.proofs.take_off.Tie as tie
+use Rattle.quotient.specs.Quotient.{TakenOff}
+use Rattle.quotient.proofs.Division.{off-none, off-more, off-all}
+use Rattle.quotient.proofs.take_off.Statement.{statement}
+use Rattle.quotient.proofs.take_off.Tie as tie
 
 abbrev Inv-loop : tie.InvT-loop
 Inv-loop products q c at rem₀ i₀ rem i = (i ≤ c) × TakenOff products q i at rem₀ rem

@@ -19,7 +19,7 @@ use Rattle.theory.proofs.Field.{add-lt, mul-lt, add-0, mul-0}
 use Rattle.theory.proofs.Place.{zeros-zero}
 use Rattle.theory.proofs.Quotient.{remains-first, remains-found, remains-turn}
 use Rattle.field.specs.Arithmetic.{Element, Products}
-use Rattle.decode.specs.Quotient.{Terms, TakenOff, Divisible, Divided, Dividing, Quotient}
+use Rattle.quotient.specs.Quotient.{Terms, TakenOff, Divisible, Divided, Dividing, Quotient}
 
 -- coefficients that are 0 from c on, and one more
 pub zeros-down : (q : List ℕ) (c : ℕ) → Deg c q → getD q (c - 1) 0 ≡ 0 → Deg (c - 1) q

@@ -1,13 +1,13 @@
--- `decode::terms` meets its contract: from the top down, the coefficients passed are 0.
+-- `quotient::terms` meets its contract: from the top down, the coefficients passed are 0.
 use Prim.Native.Nat.{_≤_}
 use borrow.Author.Needs.{needs}
 use native.Mathlib.Omega.{arith}
 use lib.ListN.{length}
 use Rattle.theory.specs.Vanish.{Deg}
 use Rattle.theory.proofs.Multiply.{deg-length}
-use Rattle.decode.proofs.Division.{zeros-down}
-use Rattle.decode.proofs.terms.Statement.{statement}
-use Rattle.decode.proofs.terms.Tie as tie
+use Rattle.quotient.proofs.Division.{zeros-down}
+use Rattle.quotient.proofs.terms.Statement.{statement}
+use Rattle.quotient.proofs.terms.Tie as tie
 
 abbrev Inv-loop : tie.InvT-loop
 Inv-loop q c₀ c = (c ≤ length q) × Deg c q
