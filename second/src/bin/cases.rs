@@ -5,7 +5,7 @@
 //! line: number and detail, for the slip reader also m, r, count and k, then the final bytes of each buffer in
 //! hexadecimal, `-` for an empty one, with single spaces between.
 
-use second::call::Call;
+use second::call::{Call, Kind};
 use second::{frame, generate, reference, worked};
 use std::fs;
 use std::path::Path;
@@ -13,15 +13,18 @@ use std::process::ExitCode;
 
 const USUAL_SEED: u64 = 7;
 const RANDOM_CASES: usize = 5_000;
-/// No file of cases is longer, and no slice in it.
-const MOST_BYTES: usize = 1_000_000;
+/// No file of cases is longer.
+const MOST_BYTES: usize = 450_000;
+/// No slice is longer: the program that runs the cases has room for so many bytes.
 const LONGEST_SLICE: usize = 600;
 
-/// The two files.
+/// The two files, and which numbers were met in which call.
+#[derive(Default)]
 struct Files {
     frames: Vec<u8>,
     answers: String,
     count: usize,
+    met: Vec<(Kind, u8)>,
 }
 
 impl Files {
@@ -31,15 +34,22 @@ impl Files {
         self.answers.push_str(&outcome.text(call.kind));
         self.answers.push('\n');
         self.count += 1;
+        let met = (call.kind, outcome.answer.number);
+        if !self.met.contains(&met) {
+            self.met.push(met);
+        }
+    }
+
+    /// Whether every call gives every number that it can give.
+    fn has_every_number(&self) -> bool {
+        let met = |kind: Kind, number: u8| self.met.contains(&(kind, number));
+        let mut kinds = Kind::ALL.into_iter();
+        kinds.all(|kind| kind.answers().iter().all(|number| met(kind, *number)))
     }
 }
 
 fn make(seed: u64) -> Files {
-    let mut files = Files {
-        frames: Vec::new(),
-        answers: String::new(),
-        count: 0,
-    };
+    let mut files = Files::default();
     for worked in worked::all() {
         files.add(&worked.call);
     }
@@ -51,6 +61,7 @@ fn make(seed: u64) -> Files {
         files.frames.len() <= MOST_BYTES,
         "the file of cases is too long"
     );
+    assert!(files.has_every_number(), "a number of a call is not met");
     files
 }
 

@@ -1,0 +1,42 @@
+// Frames on standard input: the number of a call, then its numbers in eight bytes each, then its slices, each behind its length
+// in two bytes. Low bytes come first. An input that ends too soon counts as zeros.
+ghost use Prim.Native.Nat.{_<_};
+ghost use Rattle.io.specs.Counts.{Counts};
+
+// No slice of a case is longer.
+pub const ROOM: usize = 600;
+
+pub fn wide(x: u8) -> usize
+    ensures { λ r. ⌜ r < 256 ⌝ }
+{
+    x as usize
+}
+
+// The number of the next call, 0 where the input ends.
+pub fn call() -> u8 {
+    let mut b = [0u8; 1];
+    io::read_full(0, &mut b);
+    b[0]
+}
+
+pub fn number() -> usize {
+    let mut b = [0u8; 8];
+    io::read_full(0, &mut b);
+    let low = wide(b[0]) + wide(b[1]) * 256 + wide(b[2]) * 65536 + wide(b[3]) * 16777216;
+    let high = wide(b[4]) + wide(b[5]) * 256 + wide(b[6]) * 65536 + wide(b[7]) * 16777216;
+    low + high * 4294967296
+}
+
+// Puts a slice at the front of s and says how long it is. No room, no slice.
+pub fn slice(s: &mut [u8]) -> usize
+    ensures { λ n. ⌜ Counts n (now (s .exit)) ⌝ }
+{
+    let mut b = [0u8; 2];
+    io::read_full(0, &mut b);
+    let n = wide(b[0]) + wide(b[1]) * 256;
+    if s.len() < n {
+        return 0;
+    }
+    io::read_full(0, &mut s[..n]);
+    n
+}
