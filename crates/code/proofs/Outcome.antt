@@ -4,7 +4,7 @@ use Prim.Native.Nat.{ℕ, _<_, _≤_}
 use mathlib.Core.Path.{_≡_, refl, ap, _∙_}
 use mathlib.Core.List.{List}
 use native.Mathlib.Omega.{arith}
-use lib.ListN.{length, take, drop, length-append, length-drop}
+use lib.ListN.{length, getD, take, drop, length-append, length-drop}
 use lib.Seq.{take-append-seam}
 use borrow.Author.Tests.{lt-ltb, le-ltb}
 use Rattle.defs.specs.Place.{firstHigh}
@@ -16,6 +16,9 @@ use Rattle.defs.specs.declared.Refusal.the-variants.{PointHigh, PointTwice, Sym
 use Rattle.defs.specs.declared.Verdict.{Verdict}
 use Rattle.defs.specs.declared.Verdict.the-variants.{Fine, Refused}
 use Rattle.defs.specs.declared.Code.{Code}
+use Rattle.defs.specs.Write.{front}
+use Rattle.theory.specs.Fill.{filled}
+use Rattle.theory.proofs.Fill.{filled-copy}
 use Rattle.theory.proofs.Limits.{inside-known, count-small}
 use Rattle.code.specs.Checked.{zeros, padded, codeFor, checked, refusedWith, pointsOf, IsCode}
 use Rattle.code.specs.declared.Checked.{Checked}
@@ -97,3 +100,11 @@ module _ (m r k : ℕ) (points : List ℕ) (c : Checked) (e : c ≡ checked m r 
 
   pub code-passed : Inside m r k points → Passed m r k points (c .code)
   code-passed v = rw (code-is v) (fine-passed m r k points v)
+
+-- the end of the loop that copies
+pub copied : (bytes buffer now : List ℕ) (i : ℕ) → i ≤ length bytes → length bytes ≤ i → now ≡ filled buffer 0 (λ j. getD bytes j 0) i
+    → now ≡ front bytes buffer
+unfolding front
+copied bytes buffer now i h l e =
+    let q : i ≡ length bytes = omega arith in
+    e ∙ ap (λ (n : ℕ). filled buffer 0 (λ j. getD bytes j 0) n) q ∙ filled-copy buffer bytes

@@ -1,4 +1,7 @@
 // The check of a code: refusals 1 to 6 in their order, and the code as one value with its points inside it.
+mod buffer;
+
+pub use buffer::copy;
 ghost use mathlib.Core.Path.{_≡_};
 ghost use Prim.Native.Nat.{_^_, _≤_};
 ghost use lib.ListN.{length};

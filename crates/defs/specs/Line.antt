@@ -9,7 +9,7 @@ use Rattle.defs.specs.Row.{rowOf}
 use Rattle.defs.specs.Distance.{depths, distance, Near}
 use Rattle.defs.specs.Refusal.{number, detail, refuse, answer, kept}
 use Rattle.defs.specs.Limits.{longest}
-use Rattle.defs.specs.Slip.{widthIn, depthIn, countIn, dimensionIn, pointsIn, rowIn}
+use Rattle.defs.specs.Slip.{widthIn, depthIn, dimensionIn, pointsIn, rowIn}
 use Rattle.defs.specs.Write.{front}
 use Rattle.defs.specs.Read.{readVerdict}
 use Rattle.defs.specs.declared.Refusal.{Refusal}
@@ -37,27 +37,28 @@ spaced (x ∷ s) = (32 ∷ decimal x) ++ spaced s
 unfoldable pub heading : Answer → List ℕ
 heading a = decimal (number a) ++ (32 ∷ decimal (detail a))
 
-unfoldable pub bar : List ℕ
-bar = 32 ∷ 124 ∷ []
+-- a bar and each number, all behind a space
+unfoldable pub listed : List ℕ → List ℕ
+listed s = 32 ∷ 124 ∷ spaced s
 
 unfoldable pub refusedLine : Refusal → List ℕ
 refusedLine x = heading (No x) ++ (10 ∷ [])
 
 unfoldable pub doneLine : ℕ → List ℕ → List ℕ → List ℕ
-doneLine d message depth = heading (Done d) ++ (bar ++ (spaced message ++ (bar ++ (spaced depth ++ (10 ∷ [])))))
+doneLine d message depth = heading (Done d) ++ (listed message ++ (listed depth ++ (10 ∷ [])))
 
--- f is near to the row that stands in a slip
-abbrev pub NearIn : List ℕ → List ℕ → Type 0
-NearIn bytes f = Near (widthIn bytes) (depthIn bytes) (dimensionIn bytes) (pointsIn bytes) (rowIn bytes) f
+-- the line of a row: f is found, or no message is near
+pub data RowLine (m r k : ℕ) (points w text : List ℕ) : Type 0 where
+  found : (f : List ℕ) → Near m r k points w f
+      → text ≡ doneLine (distance r (length points) (rowOf m r points f) w) f (depths r (length points) (rowOf m r points f) w)
+      → RowLine m r k points w text
+  none : ((f : List ℕ) → Near m r k points w f → ⊥) → text ≡ refusedLine TooFar → RowLine m r k points w text
 
--- the bytes are refused as a slip; or f is found; or no message is near
+-- the line of some bytes: they are refused as a slip, or the row that stands in them is decoded
 pub data Line (bytes text : List ℕ) : Type 0 where
   refused : (x : Refusal) → readVerdict bytes longest longest ≡ Refused x → text ≡ refusedLine x → Line bytes text
-  found : (f : List ℕ) → readVerdict bytes longest longest ≡ Fine → NearIn bytes f
-      → text ≡ doneLine (distance (depthIn bytes) (countIn bytes) (rowOf (widthIn bytes) (depthIn bytes) (pointsIn bytes) f) (rowIn bytes)) f
-      (depths (depthIn bytes) (countIn bytes) (rowOf (widthIn bytes) (depthIn bytes) (pointsIn bytes) f) (rowIn bytes))
-      → Line bytes text
-  none : readVerdict bytes longest longest ≡ Fine → ((f : List ℕ) → NearIn bytes f → ⊥) → text ≡ refusedLine TooFar → Line bytes text
+  read : readVerdict bytes longest longest ≡ Fine
+      → RowLine (widthIn bytes) (depthIn bytes) (dimensionIn bytes) (pointsIn bytes) (rowIn bytes) text → Line bytes text
 
 -- 7 for a buffer too short
 unfoldable pub lineVerdict : List ℕ → ℕ → Verdict

@@ -15,16 +15,21 @@ use Rattle.defs.specs.declared.Verdict.the-variants.{Fine, Refused}
 use Rattle.defs.specs.declared.Answer.the-variants.{Done, Refused as No}
 use Rattle.defs.specs.declared.SlipRead.{SlipRead}
 
--- 10, 11, 1, 3, 4, 10, 12, 6, 7; the two numbers are the lengths of the point buffer and of the row buffer
-unfoldable pub readVerdict : List ℕ → ℕ → ℕ → Verdict
-readVerdict bytes count n =
+-- 10, 11, 1, 3, 4, 10, 12, on the header and the size alone
+unfoldable pub headVerdict : List ℕ → Verdict
+headVerdict bytes =
     refuse (ltb (length bytes) 3) SlipShort
     (refuse (not (eqb (editionIn bytes) 1)) Edition
     (andThen (numbersVerdict (widthIn bytes) (depthIn bytes) (dimensionIn bytes) (countIn bytes))
     (refuse (ltb (length bytes) (sizeIn bytes)) SlipShort
-    (refuse (ltb (sizeIn bytes) (length bytes)) SlipLong
+    (refuse (ltb (sizeIn bytes) (length bytes)) SlipLong Fine))))
+
+-- then 6, 7; the two numbers are the lengths of the point buffer and of the row buffer
+unfoldable pub readVerdict : List ℕ → ℕ → ℕ → Verdict
+readVerdict bytes count n =
+    andThen (headVerdict bytes)
     (refuse (ltb (firstTwice (pointsIn bytes)) (countIn bytes)) (PointTwice (firstTwice (pointsIn bytes)))
-    (refuse (ltb count (countIn bytes) || ltb n (depthIn bytes * countIn bytes)) Length Fine))))))
+    (refuse (ltb count (countIn bytes) || ltb n (depthIn bytes * countIn bytes)) Length Fine))
 
 -- done, with the code's numbers, or refused, with 0 for each
 unfoldable pub reading : Verdict → List ℕ → SlipRead

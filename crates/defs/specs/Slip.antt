@@ -27,10 +27,13 @@ headerBits m r k count = bits 4 1 ++ (bits 2 (m / 4) ++ (bits 3 (r - 1) ++ (bits
 unfoldable pub slipSize : ℕ → ℕ → ℕ
 slipSize m symbols = 3 + (symbols * m + 7) / 8
 
--- the slip: header, points and row in bits, eight of them to a byte
+-- header, points and row in bits
+unfoldable pub slipBits : ℕ → ℕ → ℕ → List ℕ → List ℕ → List ℕ
+slipBits m r k points w = headerBits m r k (length points) ++ allBits m (points ++ w)
+
+-- the slip: eight of these bits to a byte, 0 behind them
 unfoldable pub slipOf : ℕ → ℕ → ℕ → List ℕ → List ℕ → List ℕ
-slipOf m r k points w =
-    tab (λ i. numberAt 8 (8 * i) (headerBits m r k (length points) ++ allBits m (points ++ w))) (slipSize m (length points + length w))
+slipOf m r k points w = tab (λ i. numberAt 8 (8 * i) (slipBits m r k points w)) (slipSize m (length points + length w))
 
 -- what stands in bytes that are read as a slip
 unfoldable pub editionIn : List ℕ → ℕ

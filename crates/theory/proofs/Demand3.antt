@@ -9,17 +9,15 @@ use native.Mathlib.Omega.{arith}
 use lib.Dec.{eqb}
 use lib.ListN.{length, getD, replicate, length-replicate}
 use lib.Seq.{ext-getD}
-use lib.Pow.{pow-pos}
 use borrow.Author.Tests.{eqb-true}
-use Rattle.defs.specs.Place.{total, Symbols}
+use Rattle.defs.specs.Place.{total}
 use Rattle.defs.specs.Row.{Message, rowOf}
 use Rattle.defs.specs.Distance.{symbol, agreeAt, damage, distance, radius, Near}
-use Rattle.defs.specs.Pair.{Zero}
 use Rattle.defs.specs.Limits.{Inside}
 use Rattle.theory.specs.Limits.{Limits}
 use Rattle.theory.specs.Vanish.{Same}
 use Rattle.theory.specs.Demand3.{wholeChunks, damagedChunks, Closest}
-use Rattle.theory.proofs.Place.{total-const}
+use Rattle.theory.proofs.Place.{total-const, zeros-zero, zeros-symbols}
 use Rattle.theory.proofs.Limits.{inside-known}
 use Rattle.theory.proofs.Multiply.{deg-length}
 use Rattle.theory.proofs.Differ.{agree-less, unique, sharp}
@@ -52,14 +50,6 @@ damage-depth r count u w = total-le-times count r _ _ (λ i. go i (eqb (damage r
     go : (i : ℕ) (b : Bool) → eqb (damage r u w i) 0 ≡ b → damage r u w i ≤ cond b 0 1 * r
     go i true e = omega (arith, zero-mul r, eqb-true (damage r u w i) 0 e)
     go i false e = omega (arith, one-mul r)
-
-zeros-zero : (k : ℕ) → Zero (replicate k 0)
-zeros-zero zero i = refl
-zeros-zero (suc k) zero = refl
-zeros-zero (suc k) (suc i) = zeros-zero k i
-
-zeros-symbols : (m k : ℕ) → Symbols m (replicate k 0)
-zeros-symbols m k i = rw (zeros-zero k i) (pow-pos m)
 
 module _ (m r k : ℕ) (points : List ℕ) (inside : Inside m r k points) where
   limits : Limits m r k points

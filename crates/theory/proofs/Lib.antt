@@ -21,3 +21,4 @@ pub mod Distance
 pub mod Demand3
 pub mod Pair
 pub mod Quotient
+pub mod Checks

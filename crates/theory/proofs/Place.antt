@@ -1,4 +1,4 @@
--- The laws of least, tab and total.
+-- The laws of least, tab and total, and of lists of zeros.
 -- Assumes nothing.
 use Prim.Native.Nat.{ℕ, zero, suc, _+_, _*_, _^_, _<_, _≤_, zero-le, suc-le-suc}
 use mathlib.Core.Bool.{Bool, true, false, cond}
@@ -7,10 +7,11 @@ use mathlib.Core.List.{List, [], _∷_, _++_}
 use native.Mathlib.Nat.{not-suc-le-zero, le-of-suc-le-suc, mul-zero, mul-suc}
 use native.Mathlib.Omega.{arith}
 use native.Mathlib.Decide.{decLt}
-use lib.ListN.{length, getD, take, List·getD-eq-default}
+use lib.ListN.{length, getD, take, replicate, List·getD-eq-default}
 use lib.Pow.{pow-pos}
 use borrow.Author.Tests.{leb-false}
 use Rattle.defs.specs.Place.{least, tab, total, Symbols, firstHigh}
+use Rattle.defs.specs.Pair.{Zero}
 
 -- ---- least
 
@@ -132,3 +133,13 @@ pub total-const : (n r : ℕ) → total n (λ i. r) ≡ r * n
 unfolding total
 total-const zero r = sym (mul-zero r)
 total-const (suc n) r = rw (total-const n r) (sym (mul-suc r n))
+
+-- ---- zeros
+
+pub zeros-zero : (k : ℕ) → Zero (replicate k 0)
+zeros-zero zero i = refl
+zeros-zero (suc k) zero = refl
+zeros-zero (suc k) (suc i) = zeros-zero k i
+
+pub zeros-symbols : (m k : ℕ) → Symbols m (replicate k 0)
+zeros-symbols m k i = rw (zeros-zero k i) (pow-pos m)

@@ -1,0 +1,2 @@
+-- What the steps of decode say.
+pub mod Search

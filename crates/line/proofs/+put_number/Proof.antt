@@ -1,0 +1,144 @@
+-- `put_number` writes the decimal digits; the measure is the number, of which a tenth is left at each call of itself.
+-- Assumes nothing.
+use native.Mathlib.Omega.{arith}
+use borrow.Author.Needs.{needs}
+use Prim.Native.Nat.{ℕ, _<_, _≤_}
+use mathlib.Core.Path.{ap}
+use lib.ListN.{length}
+use Rattle.line.proofs.Decimal.{decimal-one, decimal-ten, shorter}
+use Rattle.line.proofs.Pieces.{wrote-then}
+use borrow.Fn.Kinds.{In}
+use borrow.Fn.PlainCycle.{Measures, is, falls, and}
+use Rattle.line.proofs.put_number.Reads as put-number
+use Rattle.line.proofs.put_number.Kinds as put-number-kinds
+use Rattle.line.proofs.+put_number.Lts-put_number as put-number-lts
+use Rattle.line.proofs.put.Reads as put-reads
+use Rattle.line.proofs.+put_number.{statement}
+use Rattle.line.proofs.+put_number.Tie.{close}
+
+abbrev μ-put-number : Measures 1 put-number-kinds.ps ℕ
+μ-put-number κs a = a .1 .1 .0
+
+abbrev put-number-at : ℕ → In 1 put-number-kinds.ps
+put-number-at t =
+    and 1 put-number-kinds.ps (is 1 put-number-kinds.ps μ-put-number t) put-number.Pre
+
+abbrev put-number-below : ℕ → In 1 put-number-kinds.ps
+put-number-below t =
+    and 1 put-number-kinds.ps (falls 1 put-number-kinds.ps _<_ μ-put-number t) put-number.Pre
+
+put-number-cast-put : (t : ℕ) → put-number-lts.Need-cast-put (
+  put-reads.Asked,
+  put-reads.Learnt,
+  put-number-below t,
+  put-number.Post,
+) (put-number-at t) put-number.Post
+put-number-cast-put t c = omega arith
+
+put-number-add-put : (t : ℕ) → put-number-lts.Need-add-put (
+  put-reads.Asked,
+  put-reads.Learnt,
+  put-number-below t,
+  put-number.Post,
+) (put-number-at t) put-number.Post
+put-number-add-put t c = omega arith
+
+put-number-put-requires : (t : ℕ) → put-number-lts.Need-put-requires (
+  put-reads.Asked,
+  put-reads.Learnt,
+  put-number-below t,
+  put-number.Post,
+) (put-number-at t) put-number.Post
+put-number-put-requires t c κs = omega (arith, ap length (decimal-one (c .before .before .before .args .x) (c .before .if1 .taken)))
+
+put-number-same-length : (t : ℕ) → put-number-lts.Need-same-length (
+  put-reads.Asked,
+  put-reads.Learnt,
+  put-number-below t,
+  put-number.Post,
+) (put-number-at t) put-number.Post
+put-number-same-length t c = search needs
+
+put-number-returns : (t : ℕ) → put-number-lts.Need-returns (
+  put-reads.Asked,
+  put-reads.Learnt,
+  put-number-below t,
+  put-number.Post,
+) (put-number-at t) put-number.Post
+put-number-returns t c = rw (decimal-one _ (c .before .before .before .before .if1 .taken)) (c .before .before .put .ensures)
+
+put-number-put-number-requires : (t : ℕ) → put-number-lts.Need-put-number-requires (
+  put-reads.Asked,
+  put-reads.Learnt,
+  put-number-below t,
+  put-number.Post,
+) (put-number-at t) put-number.Post
+put-number-put-number-requires t c κs =
+    let x = c .before .before .before .args .x in
+    let l : 10 ≤ x = omega arith in
+    (omega arith, omega (arith, shorter x l (c .before .before .before .fits .x .fits)))
+
+put-number-cast-put-2 : (t : ℕ) → put-number-lts.Need-cast-put-2 (
+  put-reads.Asked,
+  put-reads.Learnt,
+  put-number-below t,
+  put-number.Post,
+) (put-number-at t) put-number.Post
+put-number-cast-put-2 t c = omega arith
+
+put-number-add-put-2 : (t : ℕ) → put-number-lts.Need-add-put-2 (
+  put-reads.Asked,
+  put-reads.Learnt,
+  put-number-below t,
+  put-number.Post,
+) (put-number-at t) put-number.Post
+put-number-add-put-2 t c = omega arith
+
+put-number-put-requires-2 : (t : ℕ) → put-number-lts.Need-put-requires-2 (
+  put-reads.Asked,
+  put-reads.Learnt,
+  put-number-below t,
+  put-number.Post,
+) (put-number-at t) put-number.Post
+put-number-put-requires-2 t c κs =
+    let x = c .before .before .before .before .before .before .before .args .x in
+    let l : 10 ≤ x = omega arith in
+    omega (arith, shorter x l (c .before .before .before .before .before .before .before .fits .x .fits), c .before .before .before .put-number .ensures .ends, c .before .before .before .put-number .ensures .size)
+
+put-number-same-length-2 : (t : ℕ) → put-number-lts.Need-same-length-2 (
+  put-reads.Asked,
+  put-reads.Learnt,
+  put-number-below t,
+  put-number.Post,
+) (put-number-at t) put-number.Post
+put-number-same-length-2 t c = search needs
+
+put-number-returns-2 : (t : ℕ) → put-number-lts.Need-returns-2 (
+  put-reads.Asked,
+  put-reads.Learnt,
+  put-number-below t,
+  put-number.Post,
+) (put-number-at t) put-number.Post
+put-number-returns-2 t c =
+    rw (decimal-ten _ (omega arith) (c .before .before .before .before .before .before .before .before .before .before .fits .x .fits)) (wrote-then _ _ (c .before .before .before .before .before .before .put-number .ensures) (c .before .before .put2 .ensures))
+
+pub +put-number-spec : {M : Type 1} → statement M
++put-number-spec = close μ-put-number λ t. put-number-lts.spec (
+  put-reads.Asked,
+  put-reads.Learnt,
+  put-number-below t,
+  put-number.Post,
+)
+    (put-number-at t)
+    put-number.Post
+    (put-number-cast-put t)
+    (put-number-add-put t)
+    (put-number-put-requires t)
+    (put-number-same-length t)
+    (put-number-returns t)
+    (put-number-put-number-requires t)
+    (put-number-cast-put-2 t)
+    (put-number-add-put-2 t)
+    (put-number-put-requires-2 t)
+    (put-number-same-length-2 t)
+    (put-number-returns-2 t)

@@ -1,0 +1,77 @@
+-- Pieces of text that are written one behind another.
+-- Assumes nothing.
+use Prim.Native.Nat.{ℕ, suc, _+_, _≤_, _<_}
+use mathlib.Core.Path.{_≡_, refl, ap, sym, _∙_}
+use mathlib.Core.List.{List, [], _∷_, _++_, append-assoc, append-nil}
+use native.Mathlib.Numerals.{add-one}
+use native.Mathlib.Omega.{arith}
+use lib.ListN.{length, getD, take, set, length-append, length-set}
+use lib.Seq.{take-suc-set, take-all}
+use Rattle.defs.specs.Refusal.{number, detail}
+use Rattle.defs.specs.Line.{decimal, spaced, listed, heading, refusedLine, doneLine}
+use Rattle.defs.specs.declared.Refusal.{Refusal}
+use Rattle.defs.specs.declared.Answer.{Answer}
+use Rattle.defs.specs.declared.Answer.the-variants.{Done, Refused as No}
+use Rattle.line.specs.Text.{Wrote}
+use Rattle.line.proofs.Decimal.{spaced-more}
+use Rattle.line.proofs.Lengths.{length-heading}
+
+pub wrote-byte : (old : List ℕ) (at byte : ℕ) → at < length old → Wrote old at (byte ∷ []) (set old at byte) (at + 1)
+wrote-byte old at byte h = record {
+  size = length-set old at byte;
+  ends = refl;
+  text = rw add-one (take-suc-set old at byte h);
+}
+
+pub wrote-none : (old : List ℕ) (at : ℕ) → Wrote old at [] old at
+wrote-none old at = record {
+  size = refl;
+  ends = omega arith;
+  text = sym (append-nil (take at old));
+}
+
+pub wrote-then : {old mid new : List ℕ} {at p q : ℕ} (u v : List ℕ)
+    → Wrote old at u mid p → Wrote mid p v new q → Wrote old at (u ++ v) new q
+wrote-then {old} {mid} {new} {at} {p} {q} u v a b = record {
+  size = b .size ∙ a .size;
+  ends = omega (arith, a .ends, b .ends, length-append u v);
+  text = b .text ∙ ap (λ (t : List ℕ). t ++ v) (a .text) ∙ append-assoc (take at old) u v;
+}
+
+-- ---- numbers behind spaces, one a turn
+
+pub wrote-more : {old mid new : List ℕ} {at p q : ℕ} (s : List ℕ) (i : ℕ) → i < length s
+    → Wrote old at (spaced (take i s)) mid p → Wrote mid p (32 ∷ decimal (getD s i 0)) new q → Wrote old at (spaced (take (i + 1) s)) new q
+wrote-more s i h a b = rw (spaced-more s i h) (wrote-then _ _ a b)
+
+pub wrote-all : {old new : List ℕ} {at p : ℕ} (s : List ℕ) (i : ℕ) → length s ≤ i
+    → Wrote old at (spaced (take i s)) new p → Wrote old at (spaced s) new p
+wrote-all s i h a = rw (take-all i s h) at a
+
+-- ---- the lines
+
+-- n and d are the number and the detail of a
+module _ (a : Answer) (n d : ℕ) (number-is : n ≡ number a) (detail-is : d ≡ detail a) where
+  pub heading-room : length (heading a) ≡ length (decimal n) + suc (length (decimal d))
+  heading-room = rw (number-is, detail-is) (length-heading a)
+
+  pub wrote-heading : {old mid new : List ℕ} {at p q : ℕ}
+      → Wrote old at (decimal n) mid p → Wrote mid p (32 ∷ decimal d) new q → Wrote old at (heading a) new q
+  unfolding heading
+  wrote-heading u v = rw (← number-is, ← detail-is) (wrote-then _ _ u v)
+
+pub wrote-refused : {old mid new : List ℕ} {at p q : ℕ} (x : Refusal)
+    → Wrote old at (heading (No x)) mid p → Wrote mid p (10 ∷ []) new q → Wrote old at (refusedLine x) new q
+unfolding refusedLine
+wrote-refused x u v = wrote-then _ _ u v
+
+pub wrote-list : {old one two new : List ℕ} {at p q e : ℕ} (s : List ℕ)
+    → Wrote old at (32 ∷ []) one p → Wrote one p (124 ∷ []) two q → Wrote two q (spaced s) new e → Wrote old at (listed s) new e
+unfolding listed
+wrote-list s u v w = wrote-then (32 ∷ []) (124 ∷ spaced s) u (wrote-then (124 ∷ []) (spaced s) v w)
+
+pub wrote-done : {old one two three new : List ℕ} {at p q e z : ℕ} (d : ℕ) (message depth : List ℕ)
+    → Wrote old at (heading (Done d)) one p → Wrote one p (listed message) two q → Wrote two q (listed depth) three e
+    → Wrote three e (10 ∷ []) new z → Wrote old at (doneLine d message depth) new z
+unfolding doneLine
+wrote-done d message depth u v w x = wrote-then _ _ u (wrote-then _ _ v (wrote-then _ _ w x))

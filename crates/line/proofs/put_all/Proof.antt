@@ -1,0 +1,63 @@
+-- `put_all` writes each number behind a space; after i turns the first i are written.
+-- Assumes nothing.
+use Prim.Native.Nat.{_-_, _≤_}
+use native.Mathlib.Omega.{arith}
+use lib.ListN.{length, take}
+use borrow.Author.Needs.{needs}
+use Rattle.defs.specs.Line.{spaced}
+use Rattle.line.specs.Text.{Wrote}
+use Rattle.line.proofs.Decimal.{spaced-room}
+use Rattle.line.proofs.Pieces.{wrote-none, wrote-more, wrote-all}
+use Rattle.line.proofs.put_all.Statement.{statement}
+use Rattle.line.proofs.put_all.Tie as tie
+
+abbrev Inv-loop : tie.InvT-loop
+Inv-loop text₀ at s end₀ i₀ text end i = (i ≤ length s) × Wrote text₀ at (spaced (take i s)) text end
+
+abbrev μ-loop : tie.MeasureT-loop
+μ-loop text₀ at s end₀ i₀ text end i = length s - i
+
+loop-holds : tie.Need-loop-holds Inv-loop μ-loop
+unfolding spaced
+loop-holds c = (omega arith, wrote-none _ _)
+
+shared-slice-read-put-spaced : tie.Need-shared-slice-read-put-spaced Inv-loop μ-loop
+shared-slice-read-put-spaced c = search needs
+
+cast-put-spaced : tie.Need-cast-put-spaced Inv-loop μ-loop
+cast-put-spaced c = omega (arith, c .shared-slice-known2 .given (c .before .before .before .loop .i))
+
+put-spaced-requires : tie.Need-put-spaced-requires Inv-loop μ-loop
+put-spaced-requires c κs = omega (arith, spaced-room (c .before .before .before .before .before .before .args .s .now) (c .before .before .before .loop .i) (omega arith))
+
+add-i : tie.Need-add-i Inv-loop μ-loop
+add-i c = search needs
+
+loop-less : tie.Need-loop-less Inv-loop μ-loop
+loop-less c = search needs
+
+loop-again : tie.Need-loop-again Inv-loop μ-loop
+loop-again c =
+    (omega arith, wrote-more _ (c .before .before .before .before .before .before .loop .i) (c .before .before .before .before .before .loop-test .taken) (c .before .before .before .before .before .before .loop .inv .1) (c .before .before .put-spaced .ensures))
+
+same-length : tie.Need-same-length Inv-loop μ-loop
+same-length c = search needs
+
+returns : tie.Need-returns Inv-loop μ-loop
+returns c = wrote-all _ _ (c .loop-test .left) (c .before .loop .inv .1)
+
+pub put-all-spec : {M : Type 1} → statement M
+put-all-spec =
+    tie.close
+    (tie.spec
+    Inv-loop
+    μ-loop
+    loop-holds
+    shared-slice-read-put-spaced
+    cast-put-spaced
+    put-spaced-requires
+    add-i
+    loop-less
+    loop-again
+    same-length
+    returns)

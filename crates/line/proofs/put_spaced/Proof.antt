@@ -1,0 +1,21 @@
+-- `put_spaced` writes a number behind a space.
+-- Assumes nothing.
+use borrow.Author.Needs.{needs}
+use Rattle.line.proofs.Pieces.{wrote-then}
+use Rattle.line.proofs.put_spaced.Statement.{statement}
+use Rattle.line.proofs.put_spaced.Tie as tie
+
+put-requires : tie.Need-put-requires
+put-requires c κs = search needs
+
+put-number-requires : tie.Need-put-number-requires
+put-number-requires c κs = search needs
+
+same-length : tie.Need-same-length
+same-length c = search needs
+
+returns : tie.Need-returns
+returns c = wrote-then _ _ (c .before .before .before .before .before .before .put .ensures) (c .before .before .put-number .ensures)
+
+pub put-spaced-spec : {M : Type 1} → statement M
+put-spaced-spec = tie.close (tie.spec put-requires put-number-requires same-length returns)

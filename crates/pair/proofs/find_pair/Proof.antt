@@ -1,0 +1,115 @@
+-- `pair::find_pair` meets its contract.
+-- Assumes nothing.
+use Prim.Native.Nat.{ℕ, _+_, _/_, _<_}
+use mathlib.Core.Path.{refl}
+use native.Mathlib.Nat.{lt-of-lt-of-le}
+use native.Mathlib.Omega.{arith}
+use lib.ListN.{length}
+use Rattle.solve.specs.Table.{stride, tableSize, at}
+use Rattle.solve.specs.Answer.{IsFree}
+use Rattle.solve.proofs.Free.{told}
+use Rattle.pair.proofs.Systems.{getD-zeros}
+use Rattle.pair.proofs.Outcome.{Sizes, enough, short, sizes, found-pair, found-none}
+use borrow.Author.Needs.{needs}
+use Rattle.pair.proofs.find_pair.Statement.{statement}
+use Rattle.pair.proofs.find_pair.Tie as tie
+
+-- where the radius is known, and with it the sizes
+module _ (c : tie.After-radius) where
+  abbrev start : tie.Start
+  start = c .before .before
+
+  abbrev s₀ : ℕ
+  s₀ = (length (start .args .row .now) + start .args .code .k) / 2
+
+  abbrev s₁ : ℕ
+  s₁ = c .radius .result + 1
+
+  fitting : Sizes (length (start .args .row .now)) s₀ s₁
+  fitting = sizes (start .pre .0) (start .pre .1) (c .radius .ensures)
+
+-- where the elimination has told the free unknown
+module _ (c : tie.After-c) where
+  abbrev solved : tie.After-eliminate
+  solved = c .before .before
+
+  abbrev sized : tie.After-radius
+  sized = solved .before .before .before .before
+
+  is-free : IsFree (start sized .args .code .m) (length (start sized .args .row .now)) (s₀ sized + s₁ sized)
+      (at (solved .before .before .write-system .last .0)) (at (solved .eliminate .last .0)) (c .c .given .0 .0)
+  is-free = told _ _ _ _ _ (c .c .given .1) (solved .eliminate .ensures .1)
+
+  below : c .c .given .0 .0 < stride
+  below = lt-of-lt-of-le (is-free .below) (fitting sized .fits)
+
+add-s0 : tie.Need-add-s0
+add-s0 c = omega (arith, enough (c .before .pre .0) (c .before .pre .1), short (c .before .pre .0) (c .before .pre .1))
+
+radius-requires : tie.Need-radius-requires
+radius-requires c κs = enough (c .before .pre .0) (c .before .pre .1)
+
+add-s1 : tie.Need-add-s1
+add-s1 c = omega (arith, fitting c .top₁)
+
+write-system-requires : tie.Need-write-system-requires
+write-system-requires c κs =
+    let b = c .before in
+    (start b .pre .0, (start b .pre .1, ((refl, fitting b .small, fitting b .fits), getD-zeros tableSize)))
+
+add-eliminate : tie.Need-add-eliminate
+add-eliminate c = omega (arith, fitting (c .before .before .before) .fits)
+
+eliminate-requires : tie.Need-eliminate-requires
+eliminate-requires c κs =
+    let b = fitting (c .before .before .before) in
+    (c .before .write-system .ensures .shape, (b .top, b .fits))
+
+enum-known-c : tie.Need-enum-known-c
+enum-known-c c = search needs
+
+enum-told : tie.Need-enum-told
+enum-told c = search needs
+
+returns : tie.Need-returns
+returns c =
+    let el = c .before .before in
+    let b = el .before .before .before .before in
+    found-none (start b .pre .0) (start b .pre .1) (b .radius .ensures) (el .before .before .write-system .ensures)
+    (told _ _ _ _ _ (c .enum-told .given .1) (el .eliminate .ensures .1))
+
+unknowns-requires : tie.Need-unknowns-requires
+unknowns-requires c κs =
+    let f = c .before .before in
+    let b = fitting (sized f) in
+    (solved f .eliminate .ensures .0 .size, below f, omega arith, b .top₀)
+
+unknowns-requires-2 : tie.Need-unknowns-requires-2
+unknowns-requires-2 c κs =
+    let f = c .before .before .before .before in
+    let b = fitting (sized f) in
+    (solved f .eliminate .ensures .0 .size, below f, b .fits, b .top₁)
+
+returns-2 : tie.Need-returns-2
+returns-2 c =
+    let f = c .before .before .before .before .before in
+    let b = sized f in
+    found-pair (start b .pre .0) (start b .pre .1) (b .radius .ensures) (solved f .before .before .write-system .ensures) (is-free f)
+    (c .before .before .unknowns .ensures) (c .unknowns2 .ensures)
+
+pub find-pair-spec : {M : Type 1} → statement M
+find-pair-spec =
+    tie.close
+    (tie.spec
+    add-s0
+    radius-requires
+    add-s1
+    write-system-requires
+    add-eliminate
+    eliminate-requires
+    enum-known-c
+    enum-told
+    returns
+    unknowns-requires
+    unknowns-requires-2
+    returns-2)

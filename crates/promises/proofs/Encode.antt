@@ -1,0 +1,48 @@
+-- Encode and distance: one outcome for every input, done exactly inside the limits, and a refusal changes nothing.
+use Prim.Native.Nat.{ℕ, _*_}
+use mathlib.Core.Path.{_≡_, refl, sym, _∙_}
+use mathlib.Core.List.{List}
+use native.Mathlib.Omega.{arith}
+use lib.ListN.{length}
+use Rattle.defs.specs.Row.{Message, rowOf}
+use Rattle.defs.specs.Refusal.{answer, kept}
+use Rattle.defs.specs.Limits.{Inside}
+use Rattle.defs.specs.Encode.{Encoded, distanceAnswer}
+use Rattle.defs.specs.declared.Refusal.{Refusal}
+use Rattle.defs.specs.declared.Verdict.{Verdict}
+use Rattle.defs.specs.declared.Verdict.the-variants.{Fine, Refused}
+use Rattle.defs.specs.declared.Answer.{Answer}
+use Rattle.defs.specs.declared.Answer.the-variants.{Done, Refused as No}
+use Rattle.theory.proofs.Checks.{encode-known, encode-fine}
+
+-- a done call passed its checks
+pub answer-done : (v : Verdict) (d d′ : ℕ) → answer v d ≡ Done d′ → v ≡ Fine
+unfolding answer
+answer-done Fine d d′ e = refl
+answer-done (Refused x) d d′ e = let z : _≡_ {A = ℕ} 0 1 = cc in absurd (omega arith)
+
+-- and a refused one leaves a buffer as it was
+pub kept-refused : (v : Verdict) (d : ℕ) (x : Refusal) (new old : List ℕ) → answer v d ≡ No x → kept v new old ≡ old
+unfolding answer kept
+kept-refused Fine d x new old e = let z : _≡_ {A = ℕ} 0 1 = cc in absurd (omega arith)
+kept-refused (Refused y) d x new old e = refl
+
+module _ (m r k : ℕ) (points f row : List ℕ) where
+  pub encode-same : (a b : Answer) (s t : List ℕ) → Encoded m r k points f row a s → Encoded m r k points f row b t → (a ≡ b) × (s ≡ t)
+  encode-same a b s t x y = (x .answers ∙ sym (y .answers), x .leaves ∙ sym (y .leaves))
+
+  module _ (a : Answer) (row′ : List ℕ) (x : Encoded m r k points f row a row′) where
+    pub encode-refused : (y : Refusal) → a ≡ No y → row′ ≡ row
+    encode-refused y e = x .leaves ∙ kept-refused _ 0 y _ row (sym (x .answers) ∙ e)
+
+    pub encode-done : Inside m r k points → Message m k f → length row ≡ r * length points → (a ≡ Done 0) × (row′ ≡ rowOf m r points f)
+    unfolding answer kept
+    encode-done i f-is e =
+        let v = encode-fine m r k points f (length row) i f-is e in
+        (x .answers ∙ rw v, x .leaves ∙ rw v)
+
+    pub done-encode : (d : ℕ) → a ≡ Done d → Inside m r k points × Message m k f × (length row ≡ r * length points)
+    done-encode d e = encode-known m r k points f (length row) (answer-done _ 0 d (sym (x .answers) ∙ e))
+
+pub distance-same : (r : ℕ) (u w : List ℕ) (a b : Answer) → a ≡ distanceAnswer r u w → b ≡ distanceAnswer r u w → a ≡ b
+distance-same r u w a b x y = x ∙ sym y

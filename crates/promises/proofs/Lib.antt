@@ -1,0 +1,3 @@
+-- The promises.
+pub mod Encode
+pub mod Decode

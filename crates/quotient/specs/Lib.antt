@@ -1,0 +1,2 @@
+-- What the steps of long division say.
+pub mod Quotient

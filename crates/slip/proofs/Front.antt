@@ -1,0 +1,26 @@
+-- What the loops that write a slip, and symbols that are read, leave in a buffer.
+-- Assumes nothing.
+use Prim.Native.Nat.{ℕ, _+_, _*_}
+use mathlib.Core.Path.{_≡_, _∙_}
+use mathlib.Core.List.{List}
+use lib.ListN.{length}
+use Rattle.defs.specs.Place.{tab}
+use Rattle.defs.specs.Slip.{allBits, numberAt, slipSize, slipBits, slipOf, widthIn, symbolsIn}
+use Rattle.defs.specs.Write.{front}
+use Rattle.theory.specs.Fill.{filled}
+use Rattle.theory.proofs.Place.{length-tab}
+use Rattle.theory.proofs.Fill.{filled-front}
+
+front-filled : (d : List ℕ) (F : ℕ → ℕ) (n : ℕ) → filled d 0 F n ≡ front (tab F n) d
+unfolding front
+front-filled d F n = filled-front d F n ∙ rw length-tab
+
+pub slip-filled : (m r k : ℕ) (points w d : List ℕ) (size : ℕ) → size ≡ slipSize m (length points + length w)
+    → filled d 0 (λ i. numberAt 8 (8 * i) (slipBits m r k points w)) size ≡ front (slipOf m r k points w) d
+unfolding slipOf
+slip-filled m r k points w d size e = rw e (front-filled d _ _)
+
+pub symbols-filled : (m : ℕ) (bytes : List ℕ) (past n : ℕ) (d : List ℕ) → m ≡ widthIn bytes
+    → filled d 0 (λ j. numberAt m (24 + m * (past + j)) (allBits 8 bytes)) n ≡ front (symbolsIn bytes past n) d
+unfolding symbolsIn
+symbols-filled m bytes past n d e = rw e (front-filled d _ _)

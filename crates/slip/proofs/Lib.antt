@@ -1,0 +1,12 @@
+-- The laws of slips.
+pub mod Bits
+pub mod Width
+pub mod HeaderBits
+pub mod Packed
+pub mod Front
+pub mod Writer
+pub mod Reader
+pub mod RoundTrip
+pub mod Outcome
+pub mod Enough
+pub mod Worked

@@ -1,0 +1,170 @@
+-- The ways out of the slip reader, and what its own functions rely on.
+-- Assumes nothing.
+use Prim.Native.Nat.{ℕ, _+_, _*_, _<_, _≤_}
+use mathlib.Core.Path.{_≡_, sym}
+use mathlib.Core.List.{List, []}
+use native.Mathlib.Nat.{mul-comm, mul-le-mul-left}
+use native.Mathlib.Omega.{arith}
+use lib.Dec.{ltb}
+use lib.ListN.{length, take, drop}
+use lib.Seq.{take-at}
+use borrow.Author.Tests.{lt-ltb, le-ltb, eq-eqb, ne-eqb, ltb-false}
+use Rattle.defs.specs.Refusal.{refuse, andThen, kept}
+use Rattle.defs.specs.Limits.{longest, numbersVerdict, firstTwice}
+use Rattle.defs.specs.Slip.{slipSize, widthIn, depthIn, countIn, dimensionIn, sizeIn, symbolsIn, pointsIn, rowIn}
+use Rattle.defs.specs.Write.{front}
+use Rattle.defs.specs.Read.{headVerdict, readVerdict, reading, Read}
+use Rattle.defs.specs.declared.Refusal.{Refusal}
+use Rattle.defs.specs.declared.Refusal.the-variants.{PointTwice, Length, SlipShort, Edition, SlipLong}
+use Rattle.defs.specs.declared.Verdict.{Verdict}
+use Rattle.defs.specs.declared.Verdict.the-variants.{Fine, Refused}
+use Rattle.defs.specs.declared.Answer.the-variants.{Done}
+use Rattle.defs.specs.declared.SlipRead.{SlipRead}
+use Rattle.theory.specs.Limits.{Numbers}
+use Rattle.theory.proofs.Place.{length-tab}
+use Rattle.theory.proofs.Limits.{refuse-fine, then-fine, numbers-known, count-small}
+use Rattle.slip.specs.declared.Head.{Head}
+use Rattle.slip.specs.Head.{Heads, Holds}
+
+-- ---- the checks of header and size
+
+module _ (bytes : List ℕ) where
+  pub head-short : length bytes < 3 → Refused SlipShort ≡ headVerdict bytes
+  unfolding headVerdict refuse
+  head-short l = rw (lt-ltb (length bytes) 3 l)
+
+  module _ (long : 3 ≤ length bytes) (h : Head) (s : Heads bytes h) where
+    pub head-edition : (h .edition ≡ 1 → ⊥) → Refused Edition ≡ headVerdict bytes
+    unfolding headVerdict refuse
+    head-edition n = rw (le-ltb (length bytes) 3 long, ← s .edition-is, ne-eqb (h .edition) 1 n)
+
+    module _ (e : h .edition ≡ 1) where
+      pub head-numbers : (x : Refusal) → numbersVerdict (h .m) (h .r) (h .k) (h .count) ≡ Refused x → Refused x ≡ headVerdict bytes
+      unfolding headVerdict refuse andThen
+      head-numbers x v =
+          rw (le-ltb (length bytes) 3 long, ← s .edition-is, eq-eqb (h .edition) 1 e, ← s .m-is, ← s .r-is, ← s .k-is, ← s .count-is, v)
+
+      module _ (v : numbersVerdict (h .m) (h .r) (h .k) (h .count) ≡ Fine) (size : ℕ) (q : size ≡ slipSize (h .m) (h .count + h .r * h .count)) where
+        size-is : sizeIn bytes ≡ size
+        unfolding sizeIn
+        size-is = rw (← s .m-is, ← s .r-is, ← s .count-is) (sym q)
+
+        by-size : (x : Verdict) → x ≡ refuse (ltb (length bytes) size) SlipShort (refuse (ltb size (length bytes)) SlipLong Fine) → x ≡ headVerdict bytes
+        unfolding headVerdict refuse andThen
+        by-size x p = rw (size-is, le-ltb (length bytes) 3 long, ← s .edition-is, eq-eqb (h .edition) 1 e, ← s .m-is, ← s .r-is, ← s .k-is, ← s .count-is, v) p
+
+        pub head-small : length bytes < size → Refused SlipShort ≡ headVerdict bytes
+        unfolding refuse
+        head-small l = by-size (Refused SlipShort) (rw (lt-ltb (length bytes) size l))
+
+        module _ (enough : size ≤ length bytes) where
+          pub head-large : size < length bytes → Refused SlipLong ≡ headVerdict bytes
+          unfolding refuse
+          head-large l = by-size (Refused SlipLong) (rw (le-ltb (length bytes) size enough, lt-ltb size (length bytes) l))
+
+          pub head-fine : length bytes ≤ size → Fine ≡ headVerdict bytes
+          unfolding refuse
+          head-fine l = by-size Fine (rw (le-ltb (length bytes) size enough, le-ltb size (length bytes) l))
+
+-- what they show of the bytes
+pub record Sound (bytes : List ℕ) : Type 0 where
+  pub long : 3 ≤ length bytes
+  pub numbers : Numbers (widthIn bytes) (depthIn bytes) (dimensionIn bytes) (countIn bytes)
+  pub size : length bytes ≡ sizeIn bytes
+
+pub sound : (bytes : List ℕ) → headVerdict bytes ≡ Fine → Sound bytes
+unfolding headVerdict
+sound bytes e =
+    let e1 = refuse-fine _ _ _ e in
+    let e2 = refuse-fine _ _ _ (e1 .1) in
+    let e3 = then-fine (numbersVerdict (widthIn bytes) (depthIn bytes) (dimensionIn bytes) (countIn bytes)) _ (e2 .1) in
+    let e4 = refuse-fine _ _ _ (e3 .1) in
+    let e5 = refuse-fine _ _ _ (e4 .1) in
+    record {
+      long = ltb-false (length bytes) 3 (e1 .0);
+      numbers = numbers-known _ _ _ _ (e3 .0);
+      size = omega (arith, ltb-false (length bytes) (sizeIn bytes) (e4 .0), ltb-false (sizeIn bytes) (length bytes) (e5 .0));
+    }
+
+-- ---- the symbols that a sound slip holds
+
+module _ (bytes : List ℕ) (s : Sound bytes) where
+  pub points-few : countIn bytes ≤ longest
+  points-few = count-small (s .numbers)
+
+  -- its size covers them
+  pub holds : (m past n : ℕ) → m ≡ widthIn bytes → past + n ≤ countIn bytes + depthIn bytes * countIn bytes → Holds bytes m past n
+  unfolding sizeIn slipSize
+  holds m past n e l =
+      let N = countIn bytes + depthIn bytes * countIn bytes in
+      record {
+        width = rw e (s .numbers .width);
+        m-is = e;
+        few = omega (arith, points-few, s .numbers .row-top);
+        enough = rw e (omega (arith, s .size, mul-comm (widthIn bytes) N, mul-le-mul-left {m = past + n} {n = N} (widthIn bytes) l));
+      }
+
+length-symbols : (bytes : List ℕ) (past n : ℕ) → length (symbolsIn bytes past n) ≡ n
+unfolding symbolsIn
+length-symbols bytes past n = length-tab _ n
+
+take-front : (n : ℕ) (s d : List ℕ) → length s ≡ n → take n (front s d) ≡ s
+unfolding front
+take-front n s d e = take-at s (drop (length s) d) n e
+
+-- the search for a repeated point sees the points alone
+pub twice-seen : (bytes d found : List ℕ) (count : ℕ) → count ≡ countIn bytes → found ≡ front (symbolsIn bytes 0 count) d → firstTwice (take count found) ≡ firstTwice (pointsIn bytes)
+unfolding pointsIn
+twice-seen bytes d found count c e = rw (e, take-front count (symbolsIn bytes 0 count) d (length-symbols bytes 0 count), c)
+
+-- what was read by the header's numbers
+module _ (bytes : List ℕ) (h : Head) (s : Heads bytes h) where
+  pub row-size : h .r * h .count ≡ depthIn bytes * countIn bytes
+  row-size = rw (s .r-is, s .count-is)
+
+  pub reading-done : record { answer = Done 0; m = h .m; r = h .r; count = h .count; k = h .k } ≡ reading Fine bytes
+  unfolding reading
+  reading-done = rw (s .m-is, s .r-is, s .count-is, s .k-is)
+
+  pub points-read : (points points′ : List ℕ) → points′ ≡ front (symbolsIn bytes 0 (h .count)) points → points′ ≡ front (pointsIn bytes) points
+  unfolding pointsIn
+  points-read points points′ e = rw (s .count-is) at e
+
+  pub row-read : (row row′ : List ℕ) → row′ ≡ front (symbolsIn bytes (h .count) (h .r * h .count)) row → row′ ≡ front (rowIn bytes) row
+  unfolding rowIn
+  row-read row row′ e = rw (s .r-is, s .count-is) at e
+
+-- ---- the ways out of the call
+
+module _ (bytes points row : List ℕ) where
+  refused-read : (x : Refusal) (s : SlipRead) → readVerdict bytes (length points) (length row) ≡ Refused x → s ≡ reading (Refused x) [] → Read bytes points row s points row
+  unfolding reading kept
+  refused-read x s e a = record { answers = rw e a; leaves-points = rw e; leaves-row = rw e }
+
+  pub read-head : (x : Refusal) (s : SlipRead) → headVerdict bytes ≡ Refused x → s ≡ reading (Refused x) [] → Read bytes points row s points row
+  unfolding readVerdict andThen
+  read-head x s e a = refused-read x s (rw e) a
+
+  module _ (e : headVerdict bytes ≡ Fine) (count n twice : ℕ) (c : count ≡ countIn bytes) (q : n ≡ depthIn bytes * countIn bytes) (t : twice ≡ firstTwice (pointsIn bytes)) where
+    pub read-twice : (s : SlipRead) → twice < count → s ≡ reading (Refused (PointTwice twice)) [] → Read bytes points row s points row
+    unfolding readVerdict andThen refuse
+    read-twice s l a = refused-read _ s (rw (e, ← t, ← c, lt-ltb twice count l)) a
+
+    module _ (once : count ≤ twice) where
+      pub read-points : (s : SlipRead) → length points < count → s ≡ reading (Refused Length) [] → Read bytes points row s points row
+      unfolding readVerdict andThen refuse
+      read-points s l a = refused-read _ s (rw (e, ← q, ← t, ← c, le-ltb twice count once, lt-ltb (length points) count l)) a
+
+      module _ (p : count ≤ length points) where
+        pub read-row : (s : SlipRead) → length row < n → s ≡ reading (Refused Length) [] → Read bytes points row s points row
+        unfolding readVerdict andThen refuse
+        read-row s l a = refused-read _ s (rw (e, ← q, ← t, ← c, le-ltb twice count once, le-ltb (length points) count p, lt-ltb (length row) n l)) a
+
+        pub read-fine : n ≤ length row → readVerdict bytes (length points) (length row) ≡ Fine
+        unfolding readVerdict andThen refuse
+        read-fine l = rw (e, ← q, ← t, ← c, le-ltb twice count once, le-ltb (length points) count p, le-ltb (length row) n l)
+
+  pub read-done : readVerdict bytes (length points) (length row) ≡ Fine → (s : SlipRead) → s ≡ reading Fine bytes
+      → (points′ row′ : List ℕ) → points′ ≡ front (pointsIn bytes) points → row′ ≡ front (rowIn bytes) row → Read bytes points row s points′ row′
+  unfolding kept
+  read-done e s a points′ row′ p w = record { answers = rw e a; leaves-points = rw e p; leaves-row = rw e w }

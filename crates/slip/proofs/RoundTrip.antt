@@ -1,0 +1,149 @@
+-- A code and a row that were written as a slip are read from it again.
+-- Assumes nothing.
+use Prim.Native.Nat.{ℕ, suc, _+_, _*_, _<_, _≤_}
+use mathlib.Core.Path.{_≡_, refl, ap, sym, _∙_}
+use mathlib.Core.List.{List, _++_}
+use native.Mathlib.Nat.{mul-suc, mul-comm, mul-le-mul-left, mod-eq-of-lt, zero-add}
+use native.Mathlib.Omega.{arith}
+use lib.ListN.{length, getD, take, drop, List·getD-append}
+use lib.Seq.{getD-append-add, take-at}
+use borrow.Author.Tests.{ltb-false}
+use Rattle.defs.specs.Place.{Symbols}
+use Rattle.defs.specs.Refusal.{answer, kept}
+use Rattle.defs.specs.Limits.{numbersVerdict, firstTwice, codeVerdict, Inside}
+use Rattle.defs.specs.Slip.{allBits, numberAt, headerBits, slipSize, slipBits, slipOf, editionIn, widthIn, depthIn, countIn, dimensionIn, symbolsIn, pointsIn, rowIn}
+use Rattle.defs.specs.Write.{front, writeVerdict, Written}
+use Rattle.defs.specs.Read.{headVerdict, readVerdict, Read}
+use Rattle.defs.specs.declared.Verdict.{Verdict}
+use Rattle.defs.specs.declared.Verdict.the-variants.{Fine, Refused}
+use Rattle.defs.specs.declared.Answer.the-variants.{Done}
+use Rattle.defs.specs.declared.SlipRead.{SlipRead}
+use Rattle.theory.proofs.Place.{length-tab, tab-same, tab-getD}
+use Rattle.theory.proofs.Limits.{refuse-fine, then-fine}
+use Rattle.slip.specs.declared.Head.{Head}
+use Rattle.slip.specs.Head.{Fitting, Heads}
+use Rattle.slip.proofs.Bits.{number-symbol}
+use Rattle.slip.proofs.HeaderBits.{header-edition, header-width, header-depth, header-count, header-dimension}
+use Rattle.slip.proofs.Packed.{number-back, slip-bits-are, in-header, behind-header}
+use Rattle.slip.proofs.Writer.{inside-width, inside-fits, inside-symbols, writable}
+use Rattle.slip.proofs.Reader.{head-fine, row-size, read-fine, reading-done}
+
+module _ (m r k : ℕ) (points w : List ℕ) where
+  pub length-slip : length (slipOf m r k points w) ≡ slipSize m (length points + length w)
+  unfolding slipOf
+  length-slip = length-tab _ _
+
+  module _ (e : Inside m r k points) (h : Symbols m w) where
+    fits : Fitting m r k (length points)
+    fits = inside-fits m r k points e
+
+    -- a field of the header, and a symbol behind it
+    field-back : (v p : ℕ) → p + v ≤ 24 → numberAt v p (allBits 8 (slipOf m r k points w)) ≡ numberAt v p (headerBits m r k (length points))
+    unfolding slipOf slipSize
+    field-back v p l =
+        number-back v p (slipSize m (length points + length w)) (slipBits m r k points w) (slip-bits-are m r k points w) (omega arith)
+        ∙ in-header m r k points w v p l
+
+    symbol-back : (j : ℕ) → j < length points + length w → numberAt m (24 + m * j) (allBits 8 (slipOf m r k points w)) ≡ getD (points ++ w) j 0
+    unfolding slipOf slipSize
+    symbol-back j l =
+        let N = length points + length w in
+        number-back m (24 + m * j) (slipSize m N) (slipBits m r k points w) (slip-bits-are m r k points w)
+        (omega (arith, mul-suc m j, mul-comm m N, mul-le-mul-left {m = suc j} {n = N} m l))
+        ∙ behind-header m r k points w m (m * j)
+        ∙ number-symbol m (points ++ w) j
+        ∙ mod-eq-of-lt (inside-symbols m r k points e w h j)
+
+    head : Head
+    head = record { edition = 1; m = m; r = r; count = length points; k = k }
+
+    heads-back : Heads (slipOf m r k points w) head
+    unfolding head editionIn widthIn depthIn countIn dimensionIn
+    heads-back =
+        let n = length points in
+        record {
+          edition-is = sym (field-back 4 0 (omega arith) ∙ header-edition m r k n);
+          m-is = sym (rw (field-back 2 4 (omega arith)) (header-width m r k n (inside-width m r k points e)));
+          r-is = sym (rw (field-back 3 6 (omega arith)) (header-depth m r k n fits));
+          count-is = sym (rw (field-back 7 9 (omega arith)) (header-count m r k n fits));
+          k-is = sym (rw (field-back 7 16 (omega arith)) (header-dimension m r k n fits));
+        }
+
+    symbols-back : (past : ℕ) (s : List ℕ) → past + length s ≤ length points + length w
+        → ((j : ℕ) → j < length s → getD (points ++ w) (past + j) 0 ≡ getD s j 0) → symbolsIn (slipOf m r k points w) past (length s) ≡ s
+    unfolding symbolsIn head
+    symbols-back past s l g =
+        rw (← heads-back .m-is)
+        (tab-same _ (λ j. getD s j 0) (length s) (λ j b. symbol-back (past + j) (omega arith) ∙ g j b) ∙ tab-getD s)
+
+    points-back : pointsIn (slipOf m r k points w) ≡ points
+    unfolding pointsIn head
+    points-back =
+        rw (← heads-back .count-is) (symbols-back 0 points (omega arith) (λ j l. rw (zero-add j) (List·getD-append points w 0 j l)))
+
+    module _ (n : length w ≡ r * length points) where
+      row-back : rowIn (slipOf m r k points w) ≡ w
+      unfolding rowIn head
+      row-back =
+          rw (← heads-back .r-is, ← heads-back .count-is, ← n) (symbols-back (length points) w (omega arith) (λ j l. getD-append-add points w j 0))
+
+      numbers-fine : numbersVerdict m r k (length points) ≡ Fine
+      unfolding codeVerdict
+      numbers-fine = then-fine (numbersVerdict m r k (length points)) _ e .0
+
+      points-once : length points ≤ firstTwice points
+      unfolding codeVerdict
+      points-once =
+          let e1 = refuse-fine _ _ _ (then-fine (numbersVerdict m r k (length points)) _ e .1) in
+          ltb-false (firstTwice points) (length points) (refuse-fine _ _ _ (e1 .1) .0)
+
+      head-back : headVerdict (slipOf m r k points w) ≡ Fine
+      unfolding head slipSize
+      head-back =
+          let size : length (slipOf m r k points w) ≡ slipSize m (length points + r * length points) = length-slip ∙ ap (λ (x : ℕ). slipSize m (length points + x)) n in
+          sym (head-fine (slipOf m r k points w) (omega (arith, size)) head heads-back refl numbers-fine _ refl (omega (arith, size)) (omega (arith, size)))
+
+      verdict-back : (points₀ row₀ : List ℕ) → length points ≤ length points₀ → length w ≤ length row₀
+          → readVerdict (slipOf m r k points w) (length points₀) (length row₀) ≡ Fine
+      unfolding head
+      verdict-back points₀ row₀ a b =
+          read-fine (slipOf m r k points w) points₀ row₀ head-back (length points) (length w) (firstTwice points)
+          (heads-back .count-is) (n ∙ row-size (slipOf m r k points w) head heads-back) (rw points-back) points-once a b
+
+      -- a slip is read as what it was made of
+      pub slip-read-back : (points₀ row₀ : List ℕ) → length points ≤ length points₀ → length w ≤ length row₀
+          → (s : SlipRead) (points₁ row₁ : List ℕ) → Read (slipOf m r k points w) points₀ row₀ s points₁ row₁
+          → (s ≡ record { answer = Done 0; m = m; r = r; count = length points; k = k }) × (points₁ ≡ front points points₀) × (row₁ ≡ front w row₀)
+      unfolding head kept
+      slip-read-back points₀ row₀ a b s points₁ row₁ t =
+          let v = verdict-back points₀ row₀ a b in (
+            rw v at (t .answers) ∙ sym (reading-done (slipOf m r k points w) head heads-back),
+            rw (v, points-back) at (t .leaves-points),
+            rw (v, row-back) at (t .leaves-row),
+          )
+
+done-fine : (v : Verdict) (n d : ℕ) → Done d ≡ answer v n → v ≡ Fine
+unfolding answer
+done-fine Fine n d e = refl
+done-fine (Refused x) n d e = let z : _≡_ {A = ℕ} 0 1 = cc in absurd (omega arith)
+
+-- what a writer that is done has written
+module _ (m r k d : ℕ) (points w bytes bytes′ : List ℕ) (t : Written m r k points w bytes (Done d) bytes′) where
+  taken : writeVerdict m r k points w (length bytes) ≡ Fine
+  taken = done-fine (writeVerdict m r k points w (length bytes)) _ d (t .answers)
+
+  pub wrote : take d bytes′ ≡ slipOf m r k points w
+  unfolding answer kept front
+  wrote =
+      let a : Done d ≡ Done (slipSize m (length points + length w)) = rw taken at (t .answers) in
+      let e : length (slipOf m r k points w) ≡ d = length-slip m r k points w ∙ cc in
+      let b : bytes′ ≡ slipOf m r k points w ++ drop (length (slipOf m r k points w)) bytes = rw taken at (t .leaves) in
+      ap (take d) b ∙ take-at (slipOf m r k points w) (drop (length (slipOf m r k points w)) bytes) d e
+
+  -- WRITE, THEN READ: whatever the writer left, if it was done, and whatever the reader then answers, the code and the row are the same
+  pub round-trip : (points₀ row₀ : List ℕ) → length points ≤ length points₀ → length w ≤ length row₀
+      → (s : SlipRead) (points₁ row₁ : List ℕ) → Read (take d bytes′) points₀ row₀ s points₁ row₁
+      → (s ≡ record { answer = Done 0; m = m; r = r; count = length points; k = k }) × (points₁ ≡ front points points₀) × (row₁ ≡ front w row₀)
+  round-trip points₀ row₀ a b s points₁ row₁ q =
+      let x = writable m r k points w (length bytes) taken in
+      slip-read-back m r k points w (x .inside) (x .symbols) (x .row) points₀ row₀ a b s points₁ row₁ (rw wrote at q)

@@ -1,0 +1,13 @@
+-- `refused` meets its contract: it is what the definition says.
+-- Assumes nothing.
+use mathlib.Core.Path.{refl}
+use Rattle.defs.specs.Read.{reading}
+use Rattle.slip.proofs.refused.Statement.{statement}
+use Rattle.slip.proofs.refused.Tie as tie
+
+returns : tie.Need-returns
+unfolding reading
+returns c = refl
+
+pub refused-spec : {M : Type 1} → statement M
+refused-spec = tie.close (tie.spec returns)

@@ -1,0 +1,2 @@
+-- What the slip's own functions hand one another.
+pub mod Head

@@ -1,0 +1,7 @@
+-- The laws behind the elimination.
+pub mod Sums
+pub mod Steps
+pub mod Columns
+pub mod Free
+pub mod Unknowns
+pub mod Writes

@@ -1,0 +1,82 @@
+-- `solve::clear_below` meets its contract.
+-- Assumes nothing.
+use mathlib.Core.Path.{refl}
+use mathlib.Core.Logic.{⊎-elim}
+use Prim.Native.Nat.{_-_, _<_, _≤_}
+use native.Mathlib.Omega.{arith}
+use borrow.Author.Needs.{needs}
+use Rattle.solve.specs.Table.{at, Shape}
+use Rattle.solve.specs.Step.{Alike, Leads}
+use Rattle.solve.proofs.Steps.{alike-refl, alike-trans, added-alike}
+use Rattle.solve.proofs.Columns.{leads-skip, leads-more, leads-all}
+use Rattle.solve.proofs.clear_below.Statement.{statement}
+use Rattle.solve.proofs.clear_below.Tie as tie
+
+abbrev Inv-loop : tie.InvT-loop
+Inv-loop t₀ m rows cols c i₀ t i = (c < i) × (i ≤ rows) × Shape m t × Alike m rows cols (at t₀) (at t) × Leads rows c i (at t)
+
+abbrev μ-loop : tie.MeasureT-loop
+μ-loop t₀ m rows cols c i₀ t i = rows - i
+
+add-i : tie.Need-add-i Inv-loop μ-loop
+add-i c = search needs
+
+loop-holds : tie.Need-loop-holds Inv-loop μ-loop
+loop-holds c =
+    let pre = c .pre in
+    (omega arith, omega arith, pre .0, alike-refl _ _ _ _, pre .1 .1)
+
+mul-f : tie.Need-mul-f Inv-loop μ-loop
+mul-f c = search needs
+
+add-f : tie.Need-add-f Inv-loop μ-loop
+add-f c = search needs
+
+element-copy-out-f : tie.Need-element-copy-out-f Inv-loop μ-loop
+element-copy-out-f c = search needs
+
+add-row-requires : tie.Need-add-row-requires Inv-loop μ-loop
+add-row-requires c κs =
+    let al = c .before .before .before .before in
+    let pre = al .before .pre in
+    let v = al .loop .inv in (
+      v .2,
+      (
+        (v .2 .symbols _, omega arith, omega arith, omega arith, pre .1 .0 .3),
+        λ j l. v .4 .stairs .none _ j (pre .1 .0 .0) l l,
+      ),
+    )
+
+add-i-2 : tie.Need-add-i-2 Inv-loop μ-loop
+add-i-2 c = search needs
+
+loop-less : tie.Need-loop-less Inv-loop μ-loop
+loop-less c = search needs
+
+loop-again : tie.Need-loop-again Inv-loop μ-loop
+loop-again c =
+    let al = c .before .before .before in
+    let st = al .before in
+    let v = al .loop .inv in
+    ⊎-elim
+    (λ w.
+    let A = w .2 .ensures .1 in
+    rw (w .3) (
+      omega arith,
+      omega arith,
+      w .2 .ensures .0,
+      alike-trans _ _ _ (v .3) (added-alike _ _ _ _ _ _ _ _ A (λ e. omega arith) (st .pre .1 .0 .0)),
+      leads-more _ _ _ _ (st .pre .1 .0 .2) (v .0) (omega arith) (v .4) (v .2 .symbols _) refl A,
+    ))
+    (λ w. rw (w .1) (omega arith, omega arith, v .2, v .3, leads-skip (v .4) (w .0 .left)))
+    (c .if1 .came)
+
+returns : tie.Need-returns Inv-loop μ-loop
+returns c =
+    let v = c .before .loop .inv in
+    (v .2, (v .3, leads-all (c .loop-test .left) (v .4)))
+
+pub clear-below-spec : {M : Type 1} → statement M
+clear-below-spec =
+    tie.close
+    (tie.spec Inv-loop μ-loop add-i loop-holds mul-f add-f element-copy-out-f add-row-requires add-i-2 loop-less loop-again returns)

@@ -1,0 +1,5 @@
+-- What the contracts of the elimination say.
+pub mod Table
+pub mod System
+pub mod Answer
+pub mod Step

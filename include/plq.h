@@ -1,0 +1,143 @@
+/* plq: codes with chunks of depth r, and the slips that store their rows.
+ *
+ * A message of k symbols becomes a row of n symbols. If the row arrives damaged, and the damage is not deeper than
+ * floor((n - k) / 2) in all, decoding gives the message back and says how deep each chunk was damaged.
+ *
+ * THE CODE. A code is given by three numbers and a list of points:
+ *   m       bits of a symbol: 2, 4 or 8. Symbols and points are the bytes 0 to 2^m - 1.
+ *   r       symbols in a chunk, 1 to 8.
+ *   k       symbols in a message, 1 to n.
+ *   points  1 to 2^m different symbols, one for each chunk. Their number is called n'.
+ * A row has n = r n' symbols, at most 128: chunk after chunk, r symbols each. Nothing need be checked before a call.
+ *
+ * DISTANCE. Two chunks agree to the depth at which their symbols first differ; a chunk whose first symbol is wrong is
+ * damaged to depth r, one whose last alone is wrong to depth 1. The distance of two rows is the sum over the chunks.
+ *
+ * SLICES. Each slice is a pointer and, behind it, its length. Input slices are read only; slices that are not `const`
+ * are buffers that the call may write. No pointer may be null, not even with length 0, and a buffer may not overlap
+ * another slice of the same call. Reads and writes stay within the lengths given.
+ *
+ * ANSWERS. Each call answers one word: in its low 8 bits a number, 0 if the call was done, else the reason why it was
+ * refused (enum below), and above it a detail. A refused call changes no buffer. Where several reasons hold, the
+ * smallest number is given, each being tried on the whole input before the next; plq_slip_read has its own order.
+ * Indices in details count from 0.
+ *
+ * No call allocates memory, keeps a pointer or has state: any number of threads may call at once. A thread with a stack
+ * of 64 KiB is enough for every call.
+ */
+#ifndef PLQ_H
+#define PLQ_H
+
+#include <stddef.h>
+#include <stdint.h>
+
+#ifdef __cplusplus
+extern "C" {
+#endif
+
+/* No row, slip or line is longer than these; a chunk has at most PLQ_MAX_DEPTH symbols. */
+#define PLQ_MAX_ROW 128
+#define PLQ_MAX_DEPTH 8
+#define PLQ_MAX_SLIP 259
+#define PLQ_MAX_LINE 776
+
+/* The number of an answer. */
+enum plq_number {
+    PLQ_DONE = 0,
+    PLQ_BAD_FIELD = 1,      /* m is not 2, 4 or 8; in a slip: field code 3 */
+    PLQ_BAD_DEPTH = 2,      /* r is 0 or above 8 */
+    PLQ_BAD_POINTS = 3,     /* no points, more than 2^m, or n above 128 */
+    PLQ_BAD_K = 4,          /* k is 0 or above n */
+    PLQ_POINT_HIGH = 5,     /* a point is 2^m or more; detail: the least such index */
+    PLQ_POINT_TWICE = 6,    /* a point equals an earlier one; detail: the least such index */
+    PLQ_BAD_LENGTH = 7,     /* a length is wrong or a buffer too short */
+    PLQ_SYMBOL_HIGH = 8,    /* a symbol of the message or row is 2^m or more; detail: the least such index */
+    PLQ_TOO_FAR = 9,        /* no message has a row within floor((n - k) / 2) of this one */
+    PLQ_SLIP_SHORT = 10,    /* the slip is shorter than 3 bytes or than its own size */
+    PLQ_SLIP_EDITION = 11,  /* the slip is not of edition 1 */
+    PLQ_SLIP_LONG = 12      /* the slip is longer than its own size */
+};
+
+/* The parts of an answer. PLQ_DETAIL is for every call but plq_slip_read, which packs its answer otherwise. */
+#define PLQ_NUMBER(answer) ((unsigned)((answer) & 0xFF))
+#define PLQ_DETAIL(answer) ((size_t)((answer) >> 8))
+#define PLQ_SLIP_M(answer) ((size_t)((answer) >> 8 & 0xFF))
+#define PLQ_SLIP_R(answer) ((size_t)((answer) >> 16 & 0xFF))
+#define PLQ_SLIP_COUNT(answer) ((size_t)((answer) >> 24 & 0xFF))
+#define PLQ_SLIP_K(answer) ((size_t)((answer) >> 32 & 0xFF))
+#define PLQ_SLIP_DETAIL(answer) ((size_t)((answer) >> 40 & 0xFF))
+
+/* Writes the row of a message.
+ *
+ *   message  exactly k symbols, lowest coefficient first
+ *   row      exactly n bytes
+ *
+ * Answers number | detail << 8; the detail of a done call is 0. Refuses with 1 to 8. */
+uint64_t plq_encode(size_t m, size_t r, size_t k,
+                    const uint8_t *points, size_t points_len,
+                    const uint8_t *message, size_t message_len,
+                    uint8_t *row, size_t row_len);
+
+/* Finds the message whose row lies within floor((n - k) / 2) of a received row. There is at most one.
+ *
+ *   row      exactly n symbols
+ *   message  exactly k bytes, gets the message
+ *   depths   exactly n' bytes, gets the depth of damage in each chunk
+ *
+ * Answers number | detail << 8; the detail of a done call is the sum of the depths. Refuses with 1 to 9. */
+uint64_t plq_decode(size_t m, size_t r, size_t k,
+                    const uint8_t *points, size_t points_len,
+                    const uint8_t *row, size_t row_len,
+                    uint8_t *message, size_t message_len,
+                    uint8_t *depths, size_t depths_len);
+
+/* Measures the distance of two rows with chunks of r symbols. The symbols may be any bytes.
+ *
+ *   a, b     of one length, a positive multiple of r and at most 128
+ *
+ * Answers number | detail << 8; the detail of a done call is the distance. Refuses with 2, then 7. */
+uint64_t plq_distance(size_t r,
+                      const uint8_t *a, size_t a_len,
+                      const uint8_t *b, size_t b_len);
+
+/* Writes a code and a row as a slip of 3 + ceil((n' + n) m / 8) bytes, at most 259.
+ *
+ *   row      exactly n symbols; any row, not only one that plq_encode made
+ *   bytes    at least as long as the slip; bytes behind it are kept
+ *
+ * Answers number | detail << 8; the detail of a done call is the size of the slip. Refuses with 1 to 8. */
+uint64_t plq_slip_write(size_t m, size_t r, size_t k,
+                        const uint8_t *points, size_t points_len,
+                        const uint8_t *row, size_t row_len,
+                        uint8_t *bytes, size_t bytes_len);
+
+/* Reads a slip. The row is not decoded, and need not be near that of any message.
+ *
+ *   bytes    the slip, nothing before it and nothing behind it
+ *   points   at least n' bytes; bytes behind the points are kept (PLQ_MAX_ROW is always enough)
+ *   row      at least n bytes; bytes behind the row are kept (PLQ_MAX_ROW is always enough)
+ *
+ * Answers number | m << 8 | r << 16 | n' << 24 | k << 32 | detail << 40. On refusal m, r, n' and k are 0; the detail
+ * is that of number 6, else 0. Tries, in this order: fewer than 3 bytes 10, then 11, 1, 3, 4, shorter than its size
+ * 10, then 12, 6, 7. A done call gives a code that the other calls take. */
+uint64_t plq_slip_read(const uint8_t *bytes, size_t bytes_len,
+                       uint8_t *points, size_t points_len,
+                       uint8_t *row, size_t row_len);
+
+/* Reads a slip, decodes its row and writes the line that the program slipread prints, with its newline:
+ *
+ *   0 TOTAL | MESSAGE | DEPTHS      decoded: total depth of damage, k symbols, n' depths, in decimal
+ *   NUMBER DETAIL                   refused, by the reader or with 9 by the decoder
+ *
+ *   text     at least as long as the line; bytes behind it are kept (PLQ_MAX_LINE is always enough)
+ *
+ * Answers number | detail << 8. Number 0: the line was written, whatever it says; the detail is its length.
+ * Number 7: the buffer is too short for the line. There is no other answer. */
+uint64_t plq_line(const uint8_t *slip, size_t slip_len,
+                  uint8_t *text, size_t text_len);
+
+#ifdef __cplusplus
+}
+#endif
+
+#endif

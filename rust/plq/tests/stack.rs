@@ -1,0 +1,61 @@
+//! Every call has room on the stack of a small thread, and calls from several threads do not meet.
+
+use plq::{decode, encode, line, slip_read, slip_write, Code, MAX_LINE, MAX_ROW, MAX_SLIP};
+use std::thread;
+
+const SMALL_STACK: usize = 64 * 1024;
+
+/// A constant message has the same symbol everywhere in its row if chunks have one symbol.
+/// The first 32 symbols of 128 are then damaged, which is the most that k = 64 allows.
+fn decodes_the_longest_row(symbol: u8) {
+    let points: [u8; MAX_ROW] = std::array::from_fn(|i| i as u8);
+    let code = Code {
+        m: 8,
+        r: 1,
+        k: 64,
+        points: &points,
+    };
+    let mut sent = [0; 64];
+    sent[0] = symbol;
+    let mut row = [0; MAX_ROW];
+    assert_eq!(encode(code, &sent, &mut row), Ok(()));
+    assert_eq!(row, [symbol; MAX_ROW]);
+    row[..32].iter_mut().for_each(|damaged| *damaged ^= 0xFF);
+    let (mut message, mut depths) = ([0; 64], [0; MAX_ROW]);
+    assert_eq!(decode(code, &row, &mut message, &mut depths), Ok(32));
+    assert_eq!(message, sent);
+    let damaged = |i: usize| u8::from(i < 32);
+    assert_eq!(depths, std::array::from_fn(damaged));
+    reads_its_slip(code, &row);
+}
+
+fn reads_its_slip(code: Code, row: &[u8]) {
+    let mut slip = [0; MAX_SLIP];
+    assert_eq!(slip_write(code, row, &mut slip), Ok(MAX_SLIP));
+    let (mut points, mut read) = ([0; MAX_ROW], [0; MAX_ROW]);
+    assert!(slip_read(&slip, &mut points, &mut read).is_ok());
+    assert_eq!((&points[..], &read[..]), (code.points, row));
+    let mut text = [0; MAX_LINE];
+    assert!(line(&slip, &mut text).is_ok());
+    assert!(text.starts_with(b"0 32 | "));
+}
+
+fn on_small_stack(call: impl FnOnce() + Send + 'static) -> thread::JoinHandle<()> {
+    let small = thread::Builder::new().stack_size(SMALL_STACK);
+    small.spawn(call).expect("a thread")
+}
+
+#[test]
+fn sixty_four_kibibytes_of_stack_are_enough() {
+    let thread = on_small_stack(|| decodes_the_longest_row(7));
+    thread.join().expect("the calls were done");
+}
+
+#[test]
+fn threads_do_not_meet() {
+    let call = |symbol| move || (0..20).for_each(|_| decodes_the_longest_row(symbol));
+    let threads: Vec<_> = (1..=4).map(|symbol| on_small_stack(call(symbol))).collect();
+    for thread in threads {
+        thread.join().expect("the calls were done");
+    }
+}

@@ -1,0 +1,86 @@
+//! Writes a file of framed cases and the file of their expected answers, made by the reference alone.
+//!
+//! `cases DIRECTORY [SEED]` writes `cases.bin` and `expected.txt` there. The same seed gives the same files.
+//! The cases worked by hand come first, then random ones. `frame` says how a case is framed; the answer to each is one
+//! line: number and detail, for the slip reader also m, r, count and k, then the final bytes of each buffer in
+//! hexadecimal, `-` for an empty one, with single spaces between.
+
+use second::call::Call;
+use second::{frame, generate, reference, worked};
+use std::fs;
+use std::path::Path;
+use std::process::ExitCode;
+
+const USUAL_SEED: u64 = 7;
+const RANDOM_CASES: usize = 5_000;
+/// No file of cases is longer, and no slice in it.
+const MOST_BYTES: usize = 1_000_000;
+const LONGEST_SLICE: usize = 600;
+
+/// The two files.
+struct Files {
+    frames: Vec<u8>,
+    answers: String,
+    count: usize,
+}
+
+impl Files {
+    fn add(&mut self, call: &Call) {
+        frame::write(call, &mut self.frames);
+        let outcome = reference::run(call);
+        self.answers.push_str(&outcome.text(call.kind));
+        self.answers.push('\n');
+        self.count += 1;
+    }
+}
+
+fn make(seed: u64) -> Files {
+    let mut files = Files {
+        frames: Vec::new(),
+        answers: String::new(),
+        count: 0,
+    };
+    for worked in worked::all() {
+        files.add(&worked.call);
+    }
+    let random = (0..).map(|index| generate::case(seed, index).call);
+    for call in random.filter(is_short).take(RANDOM_CASES) {
+        files.add(&call);
+    }
+    assert!(
+        files.frames.len() <= MOST_BYTES,
+        "the file of cases is too long"
+    );
+    files
+}
+
+fn is_short(call: &Call) -> bool {
+    let mut slices = call.inputs.iter().chain(&call.buffers);
+    slices.all(|slice| slice.len() <= LONGEST_SLICE)
+}
+
+fn write(directory: &Path, files: &Files) -> std::io::Result<()> {
+    fs::create_dir_all(directory)?;
+    fs::write(directory.join("cases.bin"), &files.frames)?;
+    fs::write(directory.join("expected.txt"), &files.answers)
+}
+
+fn main() -> ExitCode {
+    let arguments: Vec<String> = std::env::args().skip(1).collect();
+    let (directory, seed) = match &arguments[..] {
+        [directory] => (directory, Some(USUAL_SEED)),
+        [directory, seed] => (directory, seed.parse().ok()),
+        _ => (&String::new(), None),
+    };
+    let Some(seed) = seed else {
+        eprintln!("usage: cases DIRECTORY [SEED]");
+        return ExitCode::from(2);
+    };
+    let files = make(seed);
+    if let Err(error) = write(Path::new(directory), &files) {
+        eprintln!("cases: {error}");
+        return ExitCode::FAILURE;
+    }
+    println!("cases: {} cases, {} bytes", files.count, files.frames.len());
+    ExitCode::SUCCESS
+}

@@ -1,0 +1,176 @@
+//! What a run has met, and whether that is enough.
+
+use second::call::{Call, Kind, Outcome};
+use second::generate::{Made, Origin};
+use second::reference::code::{DEEPEST, LONGEST_ROW};
+use std::fmt;
+
+/// Every number that a call can give is met at least this often.
+const LEAST_OF_A_NUMBER: u64 = 100;
+/// So are rows at exactly the radius that were accepted, and rows just beyond it that were refused.
+const LEAST_AT_THE_RADIUS: u64 = 1000;
+/// So many slips are given to line, half of them written ones that were changed.
+const LEAST_LINES: u64 = 100_000;
+
+const NUMBERS: usize = 13;
+/// The numbers that a line can begin with.
+const PRINTED: [u8; 9] = [0, 1, 3, 4, 6, 9, 10, 11, 12];
+
+#[derive(Default)]
+pub struct Tally {
+    cases: u64,
+    /// How often each call gave each number, in the order of the calls.
+    answers: [[u64; NUMBERS]; Kind::ALL.len()],
+    /// How often the line began with each number.
+    printed: [u64; NUMBERS],
+    changed_lines: u64,
+    accepted_at_radius: u64,
+    refused_just_beyond: u64,
+    accepted_just_beyond: u64,
+    /// Codes that were decoded, by m and r and by the length of the row.
+    fields: [[u64; DEEPEST]; 3],
+    lengths: Vec<u64>,
+}
+
+impl Tally {
+    pub fn count(&mut self, made: &Made, outcome: &Outcome) {
+        let call = &made.call;
+        self.cases += 1;
+        let number = usize::from(outcome.answer.number);
+        self.answers[call.kind as usize - 1][number] += 1;
+        match call.kind {
+            Kind::Decode if matches!(number, 0 | 9) => self.count_decode(made, outcome),
+            Kind::Line => self.count_line(made, outcome),
+            _ => (),
+        }
+    }
+
+    fn count_decode(&mut self, made: &Made, outcome: &Outcome) {
+        let Call {
+            numbers, inputs, ..
+        } = &made.call;
+        let (m, r, k, n) = (numbers[0], numbers[1], numbers[2], inputs[1].len());
+        self.fields[m.ilog2() as usize - 1][r - 1] += 1;
+        self.lengths.resize(LONGEST_ROW + 1, 0);
+        self.lengths[n] += 1;
+        let accepted = outcome.answer.number == 0;
+        let radius = (n - k) / 2;
+        // With radius 0 every accepted row lies at it, so those show nothing.
+        if accepted && radius > 0 && outcome.answer.detail == radius {
+            self.accepted_at_radius += 1;
+        }
+        match (made.origin, accepted) {
+            (Origin::JustBeyond, false) => self.refused_just_beyond += 1,
+            (Origin::JustBeyond, true) => self.accepted_just_beyond += 1,
+            _ => (),
+        }
+    }
+
+    fn count_line(&mut self, made: &Made, outcome: &Outcome) {
+        if made.origin == Origin::ChangedSlip {
+            self.changed_lines += 1;
+        }
+        if outcome.answer.number == 0 {
+            let text = outcome.buffers[0].iter();
+            let digits = text.take_while(|byte| byte.is_ascii_digit());
+            let number = digits.fold(0, |number, digit| 10 * number + usize::from(digit - b'0'));
+            self.printed[number] += 1;
+        }
+    }
+
+    fn lines(&self) -> u64 {
+        self.answers[Kind::Line as usize - 1].iter().sum()
+    }
+
+    fn lengths_met(&self) -> usize {
+        self.lengths.iter().filter(|count| **count > 0).count()
+    }
+
+    /// A complaint for each count that was not reached.
+    pub fn missing(&self) -> Vec<String> {
+        let mut complaints = Vec::new();
+        let mut ask = |met: u64, least: u64, what: String| {
+            if met < least {
+                complaints.push(format!("{what}: met {met} times, not {least}"));
+            }
+        };
+        for (kind, answers) in Kind::ALL.iter().zip(&self.answers) {
+            for number in kind.answers() {
+                let what = format!("{} answering {number}", kind.name());
+                ask(answers[usize::from(*number)], LEAST_OF_A_NUMBER, what);
+            }
+        }
+        for number in PRINTED {
+            let what = format!("a line that begins with {number}");
+            ask(self.printed[usize::from(number)], LEAST_OF_A_NUMBER, what);
+        }
+        for (depths, m) in self.fields.iter().zip([2, 4, 8]) {
+            for (count, r) in depths.iter().zip(1..) {
+                ask(
+                    *count,
+                    LEAST_OF_A_NUMBER,
+                    format!("a decoded row with m {m}, r {r}"),
+                );
+            }
+        }
+        let at = LEAST_AT_THE_RADIUS;
+        ask(self.accepted_at_radius, at, "a row at the radius".into());
+        ask(self.refused_just_beyond, at, "a row just beyond it".into());
+        ask(self.lines(), LEAST_LINES, "a slip for line".into());
+        let half = self.lines() / 2;
+        ask(self.changed_lines, half, "a changed slip for line".into());
+        let lengths = self.lengths_met() as u64;
+        ask(
+            lengths,
+            LONGEST_ROW as u64,
+            "a length of decoded rows".into(),
+        );
+        complaints
+    }
+}
+
+impl fmt::Display for Tally {
+    fn fmt(&self, out: &mut fmt::Formatter) -> fmt::Result {
+        write!(out, "{:<12}", "number")?;
+        for number in 0..NUMBERS {
+            write!(out, "{number:>7}")?;
+        }
+        writeln!(out)?;
+        for (kind, answers) in Kind::ALL.iter().zip(&self.answers) {
+            write_counts(out, kind.name(), answers)?;
+        }
+        write_counts(out, "printed", &self.printed)?;
+        for (depths, m) in self.fields.iter().zip([2, 4, 8]) {
+            writeln!(out, "rows decoded with m {m}, r 1 to 8: {depths:?}")?;
+        }
+        writeln!(
+            out,
+            "lengths of decoded rows: {} of 128",
+            self.lengths_met()
+        )?;
+        writeln!(
+            out,
+            "accepted at exactly the radius: {}",
+            self.accepted_at_radius
+        )?;
+        writeln!(
+            out,
+            "damaged to just beyond the radius: {} refused, {} nearer to another message",
+            self.refused_just_beyond, self.accepted_just_beyond
+        )?;
+        writeln!(
+            out,
+            "slips for line: {}, of them {} written and then changed",
+            self.lines(),
+            self.changed_lines
+        )
+    }
+}
+
+fn write_counts(out: &mut fmt::Formatter, name: &str, counts: &[u64]) -> fmt::Result {
+    write!(out, "{name:<12}")?;
+    for count in counts {
+        write!(out, "{count:>7}")?;
+    }
+    writeln!(out)
+}

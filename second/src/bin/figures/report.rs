@@ -1,0 +1,197 @@
+//! Takes all figures and sets them out as the page docs/FIGURES.md.
+
+use crate::fec::{Fec, Library};
+use crate::inputs::{samples, settings, Damage, Sample, Setting};
+use crate::machine::{machine, today};
+use crate::measure::{Figure, RUNS};
+use crate::sides::{decode_figure, encode_figure, fec_decode_figure, fec_encode_figure};
+use crate::stack::stack_use;
+use second::archive::{self, CodeRef};
+use std::fmt::Write;
+
+/// The size of the longest slip.
+const LONGEST_SLIP: usize = 259;
+
+/// The page. Each line of a table is also printed as soon as it is known.
+pub fn report() -> String {
+    let mut tables = String::new();
+    let decode = decode_table(&mut tables);
+    let encode = encode_table(&mut tables);
+    fec_table(&mut tables);
+    stack_table(&mut tables);
+    format!("{}{tables}", introduction(decode, encode))
+}
+
+fn introduction(decode: f64, encode: f64) -> String {
+    format!(
+        "# Figures
+
+Taken on {}, {}, and written by
+
+    cargo run --release --offline --manifest-path second/Cargo.toml --bin figures
+
+Decode and encode of the archive stand against a plain elimination decoder and a plain encoder in ordinary Rust
+(`second/src/plain`): products from a full table of the field, one flat matrix brought to triangular form up to the
+first dependent column, Horner's rule for each point. Both sides check their inputs, both are optimised builds for
+plain x86-64, and both get the same 8 codes, messages and rows. k is n / 2 throughout.
+
+Buffers are made before the clock starts and are not cleared between calls: each call finds what the last one wrote,
+in a warm cache. Times are the thread's processor time for one call. The two sides take turns, {RUNS} times; times and
+ratios are medians, and the spread is the least and the greatest ratio of a turn. A ratio below 1 means that the
+archive is faster.
+
+Asked for: m 8, r 1, n 128, k 64 within 1.5 times, decoding 32 wrong symbols and encoding.
+Measured: decode {decode:.2}, encode {encode:.2}.
+",
+        today(),
+        machine()
+    )
+}
+
+/// The table of decoding; gives the ratio that is asked for.
+fn decode_table(page: &mut String) -> f64 {
+    heading(
+        page,
+        "Decode",
+        "| m | r | n | damage | archive, us | plain, us | ratio | spread |",
+    );
+    let mut asked = f64::NAN;
+    for setting in settings() {
+        for damage in Damage::ALL {
+            let figure = decode_figure(setting, &samples(setting, damage));
+            let Setting { m, r, n } = setting;
+            line(
+                page,
+                &format!("| {m} | {r} | {n} | {} ", damage.name()),
+                figure,
+            );
+            if setting.is_asked_for() && damage == Damage::FullRadius {
+                asked = figure.ratio;
+            }
+        }
+    }
+    asked
+}
+
+/// The table of encoding; gives the ratio that is asked for.
+fn encode_table(page: &mut String) -> f64 {
+    heading(
+        page,
+        "Encode",
+        "| m | r | n | archive, us | plain, us | ratio | spread |",
+    );
+    let mut asked = f64::NAN;
+    for setting in settings() {
+        let figure = encode_figure(setting, &samples(setting, Damage::None));
+        let Setting { m, r, n } = setting;
+        line(page, &format!("| {m} | {r} | {n} "), figure);
+        if setting.is_asked_for() {
+            asked = figure.ratio;
+        }
+    }
+    asked
+}
+
+/// The table against libfec, or a word that it is not there.
+fn fec_table(page: &mut String) {
+    let Some(library) = Library::find() else {
+        page.push_str("\n## Against libfec\n\nSkipped: libfec is not installed on this machine.\n");
+        println!("libfec is not installed: skipped");
+        return;
+    };
+    heading(
+        page,
+        "Against libfec",
+        "| n | call | archive, us | libfec, us | ratio | spread |",
+    );
+    for setting in settings().into_iter().filter(|setting| setting.fits_fec()) {
+        let fec = Fec::new(library, setting);
+        let n = setting.n;
+        for damage in Damage::ALL {
+            let wrong = damage.total((n - setting.k()) / 2);
+            let samples = samples(setting, damage);
+            let figure = fec_decode_figure(setting, &samples, &fec, wrong);
+            line(
+                page,
+                &format!("| {n} | decode, damage {} ", damage.name()),
+                figure,
+            );
+        }
+        let figure = fec_encode_figure(setting, &samples(setting, Damage::None), &fec);
+        line(page, &format!("| {n} | encode "), figure);
+    }
+    page.push_str(
+        "\nFor m 8 and r 1. libfec's code of this size is another one, with the message in clear, and its decoder\n\
+         finds the positions of the wrong symbols; it gets a fresh copy of its block for each call.\n",
+    );
+}
+
+/// A level-two heading and the first two lines of a table.
+fn heading(page: &mut String, title: &str, columns: &str) {
+    let rule: String = "|---".repeat(columns.matches('|').count() - 1);
+    let _ = write!(page, "\n## {title}\n\n{columns}\n{rule}|\n");
+    println!("{title}\n{columns}");
+}
+
+fn line(page: &mut String, start: &str, figure: Figure) {
+    let line = format!(
+        "{start}| {:.2} | {:.2} | {:.2} | {:.2} to {:.2} |",
+        figure.first, figure.second, figure.ratio, figure.least_ratio, figure.most_ratio
+    );
+    println!("{line}");
+    page.push_str(&line);
+    page.push('\n');
+}
+
+/// The stack that each call takes for a row of 128.
+fn stack_table(page: &mut String) {
+    let uses = stack_uses();
+    let deepest = uses.iter().map(|(_, bytes)| *bytes).max().unwrap_or(0);
+    let _ = write!(
+        page,
+        "\n## Stack\n\nBytes of stack for m 8, r 1, n 128, k 64, found by running each call on a stack filled with a\n\
+         pattern. A thread with a stack of 64 KiB has 65536; the call that takes most takes {deepest}.\n\n\
+         | call | bytes |\n|---|---|\n",
+    );
+    for (name, bytes) in uses {
+        println!("stack of {name}: {bytes} bytes");
+        let _ = writeln!(page, "| {name} | {bytes} |");
+    }
+}
+
+fn stack_uses() -> Vec<(&'static str, usize)> {
+    let setting = Setting { m: 8, r: 1, n: 128 };
+    let samples = samples(setting, Damage::FullRadius);
+    let Sample { code, message, row } = &samples[0];
+    let code = CodeRef::from(code);
+    let mut out = [0; 128];
+    let mut found = [0; 64];
+    let mut slip = [0; LONGEST_SLIP];
+    let mut text = [0; 800];
+    vec![
+        (
+            "encode",
+            stack_use(&mut || _ = archive::encode(code, message, &mut out)),
+        ),
+        (
+            "decode",
+            stack_use(&mut || _ = archive::decode(code, row, &mut found, &mut out)),
+        ),
+        (
+            "distance",
+            stack_use(&mut || _ = archive::distance(1, row, code.points)),
+        ),
+        (
+            "slip_write",
+            stack_use(&mut || _ = archive::slip_write(code, row, &mut slip)),
+        ),
+        (
+            "slip_read",
+            stack_use(&mut || _ = archive::slip_read(&slip, &mut out, &mut [0; 128])),
+        ),
+        (
+            "line",
+            stack_use(&mut || _ = archive::line(&slip, &mut text)),
+        ),
+    ]
+}

@@ -1,0 +1,208 @@
+//! A call with all its inputs, and its outcome: the answer and the final bytes of every buffer.
+
+/// Which call is made; the number is the one that frames use.
+#[derive(Clone, Copy, Debug, PartialEq, Eq)]
+pub enum Kind {
+    Encode = 1,
+    Decode = 2,
+    Distance = 3,
+    SlipWrite = 4,
+    SlipRead = 5,
+    Line = 6,
+}
+
+/// How many numbers, input slices and buffers a call takes, in this order.
+#[derive(Clone, Copy, Debug, PartialEq, Eq)]
+pub struct Shape {
+    pub numbers: usize,
+    pub inputs: usize,
+    pub buffers: usize,
+}
+
+impl Kind {
+    pub const ALL: [Kind; 6] = [
+        Kind::Encode,
+        Kind::Decode,
+        Kind::Distance,
+        Kind::SlipWrite,
+        Kind::SlipRead,
+        Kind::Line,
+    ];
+
+    pub fn from_byte(byte: u8) -> Option<Kind> {
+        Kind::ALL.into_iter().find(|kind| *kind as u8 == byte)
+    }
+
+    pub fn name(self) -> &'static str {
+        match self {
+            Kind::Encode => "encode",
+            Kind::Decode => "decode",
+            Kind::Distance => "distance",
+            Kind::SlipWrite => "slip_write",
+            Kind::SlipRead => "slip_read",
+            Kind::Line => "line",
+        }
+    }
+
+    pub fn shape(self) -> Shape {
+        let (numbers, inputs, buffers) = match self {
+            Kind::Encode => (3, 2, 1),
+            Kind::Decode => (3, 2, 2),
+            Kind::Distance => (1, 2, 0),
+            Kind::SlipWrite => (3, 2, 1),
+            Kind::SlipRead => (0, 1, 2),
+            Kind::Line => (0, 1, 1),
+        };
+        Shape {
+            numbers,
+            inputs,
+            buffers,
+        }
+    }
+
+    /// The numbers that the call can answer with.
+    pub fn answers(self) -> &'static [u8] {
+        match self {
+            Kind::Encode => &[0, 1, 2, 3, 4, 5, 6, 7, 8],
+            Kind::Decode => &[0, 1, 2, 3, 4, 5, 6, 7, 8, 9],
+            Kind::Distance => &[0, 2, 7],
+            Kind::SlipWrite => &[0, 1, 2, 3, 4, 5, 6, 7, 8],
+            Kind::SlipRead => &[0, 1, 3, 4, 6, 7, 10, 11, 12],
+            Kind::Line => &[0, 7],
+        }
+    }
+}
+
+/// One call: numbers (m, r, k or r alone), input slices and buffers with their first contents.
+#[derive(Clone, Debug, PartialEq, Eq)]
+pub struct Call {
+    pub kind: Kind,
+    pub numbers: Vec<usize>,
+    pub inputs: Vec<Vec<u8>>,
+    pub buffers: Vec<Vec<u8>>,
+}
+
+/// A code as a caller gives it, checked by nobody.
+#[derive(Clone, Debug, PartialEq, Eq)]
+pub struct RawCode {
+    pub m: usize,
+    pub r: usize,
+    pub k: usize,
+    pub points: Vec<u8>,
+}
+
+impl Call {
+    pub fn encode(code: RawCode, message: Vec<u8>, row: Vec<u8>) -> Call {
+        Call::with_code(Kind::Encode, code, message, vec![row])
+    }
+
+    pub fn decode(code: RawCode, row: Vec<u8>, message: Vec<u8>, depths: Vec<u8>) -> Call {
+        Call::with_code(Kind::Decode, code, row, vec![message, depths])
+    }
+
+    pub fn distance(r: usize, a: Vec<u8>, b: Vec<u8>) -> Call {
+        Call {
+            kind: Kind::Distance,
+            numbers: vec![r],
+            inputs: vec![a, b],
+            buffers: vec![],
+        }
+    }
+
+    pub fn slip_write(code: RawCode, row: Vec<u8>, bytes: Vec<u8>) -> Call {
+        Call::with_code(Kind::SlipWrite, code, row, vec![bytes])
+    }
+
+    pub fn slip_read(bytes: Vec<u8>, points: Vec<u8>, row: Vec<u8>) -> Call {
+        Call::with_slip(Kind::SlipRead, bytes, vec![points, row])
+    }
+
+    pub fn line(slip: Vec<u8>, text: Vec<u8>) -> Call {
+        Call::with_slip(Kind::Line, slip, vec![text])
+    }
+
+    fn with_code(kind: Kind, code: RawCode, symbols: Vec<u8>, buffers: Vec<Vec<u8>>) -> Call {
+        Call {
+            kind,
+            numbers: vec![code.m, code.r, code.k],
+            inputs: vec![code.points, symbols],
+            buffers,
+        }
+    }
+
+    fn with_slip(kind: Kind, slip: Vec<u8>, buffers: Vec<Vec<u8>>) -> Call {
+        Call {
+            kind,
+            numbers: vec![],
+            inputs: vec![slip],
+            buffers,
+        }
+    }
+}
+
+/// What a done slip reader answers beside its number; all zero for every other answer.
+#[derive(Clone, Copy, Debug, Default, PartialEq, Eq)]
+pub struct Header {
+    pub m: usize,
+    pub r: usize,
+    pub count: usize,
+    pub k: usize,
+}
+
+#[derive(Clone, Copy, Debug, Default, PartialEq, Eq)]
+pub struct Answer {
+    pub number: u8,
+    pub detail: usize,
+    pub header: Header,
+}
+
+impl Answer {
+    /// The one word that the C function for this call returns.
+    pub fn packed(self, kind: Kind) -> u64 {
+        let number = u64::from(self.number);
+        let detail = self.detail as u64;
+        if kind != Kind::SlipRead {
+            return number | detail << 8;
+        }
+        let Header { m, r, count, k } = self.header;
+        number
+            | (m as u64) << 8
+            | (r as u64) << 16
+            | (count as u64) << 24
+            | (k as u64) << 32
+            | detail << 40
+    }
+}
+
+/// The answer of a call and the final bytes of its buffers.
+#[derive(Clone, Debug, PartialEq, Eq)]
+pub struct Outcome {
+    pub answer: Answer,
+    pub buffers: Vec<Vec<u8>>,
+}
+
+impl Outcome {
+    /// The outcome as the file of expected answers has it, without the newline.
+    pub fn text(&self, kind: Kind) -> String {
+        let Answer {
+            number,
+            detail,
+            header,
+        } = self.answer;
+        let mut fields = vec![number.to_string(), detail.to_string()];
+        if kind == Kind::SlipRead {
+            let Header { m, r, count, k } = header;
+            fields.extend([m, r, count, k].map(|number| number.to_string()));
+        }
+        fields.extend(self.buffers.iter().map(|bytes| hex(bytes)));
+        fields.join(" ")
+    }
+}
+
+/// Two lower-case hexadecimal digits for each byte, or `-` for no bytes.
+pub fn hex(bytes: &[u8]) -> String {
+    if bytes.is_empty() {
+        return "-".to_string();
+    }
+    bytes.iter().map(|byte| format!("{byte:02x}")).collect()
+}

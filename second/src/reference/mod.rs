@@ -1,0 +1,77 @@
+//! The codes, rows and slips written from their description alone: every check, every refusal, every answer.
+//!
+//! Nothing here is shared with the proved crates, and the decoder finds a message by other means than they do:
+//! it tries all messages of a small code, and interpolates and divides (Euclid's algorithm) for a larger one.
+
+pub mod code;
+pub mod decode;
+pub mod euclid;
+pub mod field;
+pub mod line;
+pub mod poly;
+pub mod refusal;
+pub mod rows;
+pub mod search;
+pub mod slip;
+
+use crate::call::{Answer, Call, Header, Kind, Outcome};
+use refusal::Refusal;
+
+/// The outcome that the description gives for `call`.
+pub fn run(call: &Call) -> Outcome {
+    let mut buffers = call.buffers.clone();
+    let answer = match call.kind {
+        Kind::SlipRead => read_answer(call, &mut buffers),
+        _ => plain_answer(call, &mut buffers),
+    };
+    Outcome { answer, buffers }
+}
+
+fn read_answer(call: &Call, buffers: &mut [Vec<u8>]) -> Answer {
+    let [points, row] = buffers else {
+        panic!("the slip reader takes two buffers");
+    };
+    match slip::read(&call.inputs[0], points, row) {
+        Ok(header) => Answer {
+            header,
+            ..Answer::default()
+        },
+        Err(refusal) => refused(refusal),
+    }
+}
+
+fn plain_answer(call: &Call, buffers: &mut [Vec<u8>]) -> Answer {
+    match detail(call, buffers) {
+        Ok(detail) => Answer {
+            number: 0,
+            detail,
+            header: Header::default(),
+        },
+        Err(refusal) => refused(refusal),
+    }
+}
+
+fn detail(call: &Call, buffers: &mut [Vec<u8>]) -> Result<usize, Refusal> {
+    match (call.kind, &call.numbers[..], &call.inputs[..], buffers) {
+        (Kind::Encode, &[m, r, k], [points, message], [row]) => {
+            rows::encode(m, r, k, points, message, row)
+        }
+        (Kind::Decode, &[m, r, k], [points, row], [message, depths]) => {
+            decode::decode(m, r, k, points, row, message, depths)
+        }
+        (Kind::Distance, &[r], [a, b], []) => rows::distance(r, a, b),
+        (Kind::SlipWrite, &[m, r, k], [points, row], [bytes]) => {
+            slip::write(m, r, k, points, row, bytes)
+        }
+        (Kind::Line, [], [slip], [text]) => line::line(slip, text),
+        _ => panic!("a {} call has another shape", call.kind.name()),
+    }
+}
+
+fn refused(refusal: Refusal) -> Answer {
+    Answer {
+        number: refusal.number(),
+        detail: refusal.place(),
+        header: Header::default(),
+    }
+}

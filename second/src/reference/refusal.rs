@@ -1,0 +1,58 @@
+//! Why a call is refused: the number, and for three of them the place.
+
+#[derive(Clone, Copy, Debug, PartialEq, Eq)]
+pub enum Refusal {
+    /// m is not 2, 4 or 8, or a slip's field code is 3.
+    Field,
+    /// r is 0 or above 8.
+    Depth,
+    /// The point list is empty, longer than the field, or the row would be too long.
+    Points,
+    /// k is 0 or above n.
+    MessageLength,
+    /// The point at this index is no element of the field.
+    PointHigh(usize),
+    /// The point at this index equals an earlier one.
+    PointTwice(usize),
+    /// A length is wrong or a buffer too short.
+    Length,
+    /// The symbol at this index is no element of the field.
+    SymbolHigh(usize),
+    /// No message has a row within the radius.
+    TooFar,
+    /// The slip ends before its header or before its size.
+    SlipShort,
+    /// The slip is of another edition.
+    Edition,
+    /// The slip goes on behind its size.
+    SlipLong,
+}
+
+impl Refusal {
+    pub fn number(self) -> u8 {
+        match self {
+            Refusal::Field => 1,
+            Refusal::Depth => 2,
+            Refusal::Points => 3,
+            Refusal::MessageLength => 4,
+            Refusal::PointHigh(_) => 5,
+            Refusal::PointTwice(_) => 6,
+            Refusal::Length => 7,
+            Refusal::SymbolHigh(_) => 8,
+            Refusal::TooFar => 9,
+            Refusal::SlipShort => 10,
+            Refusal::Edition => 11,
+            Refusal::SlipLong => 12,
+        }
+    }
+
+    /// The index that the refusal speaks of, 0 where it speaks of none.
+    pub fn place(self) -> usize {
+        match self {
+            Refusal::PointHigh(place) | Refusal::PointTwice(place) | Refusal::SymbolHigh(place) => {
+                place
+            }
+            _ => 0,
+        }
+    }
+}
