@@ -18,6 +18,7 @@ use Rattle.theory.specs.Poly.{h}
 use Rattle.theory.proofs.Formula.{coefficient-h}
 use Rattle.theory.proofs.Generator.{one-lt, order}
 use Rattle.code.proofs.Numbers.{size-top}
+use Rattle.rows.specs.Tables.{places}
 use Rattle.rows.specs.Chunk.{chunkOf, Coefficient, Evaluable}
 use Rattle.rows.proofs.Chunks.{chunk-same}
 use Rattle.rows.proofs.Lookup.{reach, look-up}
@@ -77,7 +78,7 @@ module _ (m P j step : ℕ) (f symbols powers parities : List ℕ) (t : Coeffici
       record { low = omega arith; high = omega arith; exponent = omega (arith, t .logarithm .below); power = rw e; is = rw e }
 
   module _ (i e total : ℕ) (a : Added m P f j i e total) (l : i < length f) where
-    pub place-fits : getD symbols i 0 + e < 766
+    pub place-fits : getD symbols i 0 + e < places
     place-fits = reach m (t .width) (getD f i 0) (getD symbols i 0) e (t .symbols-are .at i l) (a .exponent)
 
     product : getD powers (getD symbols i 0 + e) 0 ≡ mul m (getD f i 0) (pow m P (i - j))

@@ -23,7 +23,7 @@ use Rattle.code.specs.Checked.{zeros}
 use Rattle.code.proofs.Outcome.{length-zeros}
 use Rattle.code.proofs.Numbers.{size-top}
 use Rattle.code.proofs.Search.{all-zero}
-use Rattle.rows.specs.Tables.{nowhere, LogOf, PowersOf, LogsFor, LogsOf}
+use Rattle.rows.specs.Tables.{nowhere, places, LogOf, PowersOf, LogsFor, LogsOf}
 
 -- what stands in a list whose front has been filled
 filled-new : (d : List ℕ) (F : ℕ → ℕ) (n i : ℕ) → i < n → getD (filled d 0 F n) i 0 ≡ F i
@@ -39,15 +39,15 @@ filled-old d F n i l =
 -- ---- powers
 
 unfoldable pub room : List ℕ
-room = replicate 766 0
+room = replicate places 0
 
-long : length room ≡ 766
+long : length room ≡ places
 unfolding room
 long = refl
 
 bare : (i : ℕ) → getD room i 0 ≡ 0
 unfolding room
-bare i = all-zero 766 i
+bare i = all-zero places i
 
 -- the powers below i are written, and x is the next
 pub record Powered (m i x : ℕ) (table : List ℕ) : Type 0 where
@@ -64,9 +64,9 @@ module _ (m : ℕ) (w : Width m) where
   pub order-top : 2 ^ m - 1 ≤ 255
   order-top = omega (arith, size-top m w)
 
-  pub powers-first : Powered m 0 1 (replicate 766 0)
+  pub powers-first : Powered m 0 1 (replicate places 0)
   unfolding room pow
-  powers-first = record { few = omega arith; is = filled-none (replicate 766 0) 0 (pow m 2); next = record { is = refl; small = one-lt m w } }
+  powers-first = record { few = omega arith; is = filled-none (replicate places 0) 0 (pow m 2); next = record { is = refl; small = one-lt m w } }
 
   pub powers-more : (i x x′ : ℕ) (table : List ℕ) → Powered m i x table → i < 2 * (2 ^ m - 1) → Element m (times2 m x) x′
       → Powered m (i + 1) x′ (set table i x)
@@ -133,10 +133,10 @@ module _ (m : ℕ) (w : Width m) where
 
 module _ (m : ℕ) (w : Width m) (a l e : ℕ) (h : LogOf m a l) (b : e ≤ 2 ^ m - 1) where
   -- the place where the product of a and the power e stands
-  pub reach : l + e < 766
+  pub reach : l + e < places
   reach = go (ℕᴺ-discrete a 0)
     where
-      go : Dec (a ≡ 0) → l + e < 766
+      go : Dec (a ≡ 0) → l + e < places
       go (yes z) = omega (arith, h .none z, order-top m w)
       go (no z) = omega (arith, h .some z .below, order-top m w)
 

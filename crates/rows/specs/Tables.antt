@@ -10,6 +10,10 @@ use Rattle.field.specs.Arithmetic.{Logarithm}
 abbrev pub nowhere : ℕ
 nowhere = 510
 
+-- the length of the table of powers
+abbrev pub places : ℕ
+places = 766
+
 -- l is the logarithm of a
 pub record LogOf (m a l : ℕ) : Type 0 where
   pub none : a ≡ 0 → l ≡ nowhere

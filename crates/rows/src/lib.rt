@@ -19,16 +19,19 @@ use defs::LONGEST;
 use defs::Refusal;
 use defs::Verdict;
 
-// The logarithm of 0 in local tables: so many powers stand before it, and from there on the powers are 0.
+// The logarithm of 0: it leads past the powers of every field, twice round, to where zeros stand.
 const NOWHERE: usize = 510;
 
+// The powers and the zeros behind them.
+const PLACES: usize = 766;
+
 // The powers of 2, twice round, with zeros behind them: a constant table would be built again at each look-up.
-fn powers(m: usize) -> [u8; 766]
+fn powers(m: usize) -> [u8; PLACES]
     requires { ⌜ Width m ⌝ }
     ensures { λ t. ⌜ PowersOf m t ⌝ }
 {
     let n = 2 * (code::field_size(m) - 1);
-    let mut table = [0u8; 766];
+    let mut table = [0u8; PLACES];
     let mut x: u8 = 1;
     let mut i = 0;
     while i < n {
@@ -40,7 +43,7 @@ fn powers(m: usize) -> [u8; 766]
 }
 
 // The logarithm of each symbol.
-fn logs(m: usize, powers: &[u8; 766]) -> [usize; 256]
+fn logs(m: usize, powers: &[u8; PLACES]) -> [usize; 256]
     requires { ⌜ Width m ⌝ }
     requires { ⌜ PowersOf m (now powers) ⌝ }
     ensures { λ t. ⌜ LogsFor m t ⌝ }
@@ -70,8 +73,8 @@ fn message_logs(m: usize, message: &[u8], logs: &[usize; 256]) -> [usize; LONGES
     table
 }
 
-// One Hasse coefficient of a message at a point that is not 0. e is a logarithm of the point's power, and step that of the point; e is
-// brought down without a branch, since size is one more than the order of 2.
+// One Hasse coefficient of a message at a point that is not 0. 2^step is the point and 2^e its power. Since size is one more than the
+// order of 2, the last line but one brings e down again, without a branch.
 fn coefficient(
     m: usize,
     point: u8,
@@ -79,7 +82,7 @@ fn coefficient(
     step: usize,
     message: &[u8],
     symbols: &[usize; LONGEST],
-    powers: &[u8; 766],
+    powers: &[u8; PLACES],
     parities: &[u8; 1024],
 ) -> u8
     requires { ⌜ Coefficient m point j step (now message) (now symbols) (now powers) (now parities) ⌝ }
@@ -118,7 +121,7 @@ pub fn evaluate(
     message: &[u8],
     symbols: &[usize; LONGEST],
     logs: &[usize; 256],
-    powers: &[u8; 766],
+    powers: &[u8; PLACES],
     parities: &[u8; 1024],
 ) -> [u8; 8]
     requires { ⌜ Evaluable m r point (now message) (now symbols) (now logs) (now powers) (now parities) ⌝ }

@@ -43,13 +43,13 @@ element-copy-out-sum-2 : tie.Need-element-copy-out-sum-2 Inv-loop μ-loop
 element-copy-out-sum-2 c = search needs
 
 add-sum-2 : tie.Need-add-sum-2 Inv-loop μ-loop
-add-sum-2 c = omega (arith, place-fits _ _ _ _ _ _ _ _ (c .before .before .before .before .before .before .pre) _ _ _ (c .before .before .before .loop .inv) (c .before .before .loop-test .taken))
+add-sum-2 c = omega (arith, place-fits _ _ _ _ _ _ _ _ (c .before .before .before .before .before .before .pre) _ _ _ (c .before .before .before .loop .inv) (omega arith))
 
 element-copy-out-sum-3 : tie.Need-element-copy-out-sum-3 Inv-loop μ-loop
-element-copy-out-sum-3 c = place-fits _ _ _ _ _ _ _ _ (c .before .before .before .before .before .before .pre) _ _ _ (c .before .before .before .loop .inv) (c .before .before .loop-test .taken)
+element-copy-out-sum-3 c = place-fits _ _ _ _ _ _ _ _ (c .before .before .before .before .before .before .pre) _ _ _ (c .before .before .before .loop .inv) (omega arith)
 
 mul-sum-3 : tie.Need-mul-sum-3 Inv-loop μ-loop
-mul-sum-3 c = record { fits = term-byte _ _ _ _ _ _ _ _ (c .before .before .before .before .before .before .before .pre) _ _ _ (c .before .before .before .before .loop .inv) (c .before .before .before .loop-test .taken) }
+mul-sum-3 c = record { fits = term-byte _ _ _ _ _ _ _ _ (c .before .before .before .before .before .before .before .pre) _ _ _ (c .before .before .before .before .loop .inv) (omega arith) }
 
 add-next : tie.Need-add-next Inv-loop μ-loop
 add-next c = omega (arith, order-top _ (c .before .before .before .before .before .before .before .pre .width), c .before .before .before .before .before .before .before .pre .logarithm .below, c .before .before .before .before .loop .inv .exponent)
@@ -70,7 +70,7 @@ loop-less : tie.Need-loop-less Inv-loop μ-loop
 loop-less c = search needs
 
 loop-again : tie.Need-loop-again Inv-loop μ-loop
-loop-again c = added-more _ _ _ _ _ _ _ _ (c .before .before .before .before .before .before .before .pre) _ _ _ (c .before .before .before .before .loop .inv) (c .before .before .before .loop-test .taken) _ (on c)
+loop-again c = added-more _ _ _ _ _ _ _ _ (c .before .before .before .before .before .before .before .pre) _ _ _ (c .before .before .before .before .loop .inv) (omega arith) _ (on c)
 
 returns : tie.Need-returns Inv-loop μ-loop
 returns c = added-last _ _ _ _ _ _ _ _ (c .before .before .before .before .pre) _ _ _ (c .before .loop .inv) (c .loop-test .left)
