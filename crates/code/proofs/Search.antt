@@ -33,19 +33,19 @@ pub record Seen (s : List ℕ) (i : ℕ) (seen : List ℕ) : Type 0 where
   pub clear : (x : ℕ) → x < 256 → getD seen x 0 ≡ 0 → Fresh s i x
   pub marked : (x : ℕ) → (getD seen x 0 ≡ 0 → ⊥) → Fresh s i x → ⊥
 
+pub all-zero : (n x : ℕ) → getD (replicate {A = ℕ} n 0) x 0 ≡ 0
+all-zero n x = go (decLt x n)
+  where
+    go : Dec (x < n) → getD (replicate {A = ℕ} n 0) x 0 ≡ 0
+    go (yes l) = getD-replicate n x 0 0 l
+    go (no l) = List·getD-eq-default (replicate n 0) 0 {n = x} (omega (arith, length-replicate {A = ℕ} n 0))
+
 pub seen-first : (s : List ℕ) → Seen s 0 (replicate 256 0)
 seen-first s = record {
   size = length-replicate {A = ℕ} 256 0;
   clear = λ x h e j l. absurd (omega arith);
   marked = λ x h f. h (all-zero 256 x);
 }
-  where
-    all-zero : (n x : ℕ) → getD (replicate {A = ℕ} n 0) x 0 ≡ 0
-    all-zero n x = go (decLt x n)
-      where
-        go : Dec (x < n) → getD (replicate {A = ℕ} n 0) x 0 ≡ 0
-        go (yes l) = getD-replicate n x 0 0 l
-        go (no l) = List·getD-eq-default (replicate n 0) 0 {n = x} (omega (arith, length-replicate {A = ℕ} n 0))
 
 module _ (s : List ℕ) (i : ℕ) (seen : List ℕ) (h : Seen s i seen) where
   -- the symbol at i is marked

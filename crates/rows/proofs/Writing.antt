@@ -8,6 +8,7 @@ use native.Mathlib.Numerals.{add-one}
 use native.Mathlib.Omega.{arith}
 use lib.ListN.{length, getD, take, drop, drop-of-length-le}
 use lib.Seq.{length-take-le, take-all, take-at, drop-append-add, drop-drop, getD-take}
+use Rattle.defs.specs.Field.{Width}
 use Rattle.defs.specs.Place.{tab}
 use Rattle.defs.specs.Row.{coefficient, rowOf}
 use Rattle.defs.specs.Limits.{deepest, longest}
@@ -20,6 +21,7 @@ use Rattle.theory.proofs.Fill.{length-filled}
 use Rattle.theory.proofs.Limits.{inside-known, count-small}
 use Rattle.field.specs.Arithmetic.{Parities}
 use Rattle.code.specs.Checked.{pointsOf}
+use Rattle.rows.specs.Tables.{PowersOf, LogsFor, LogsOf}
 use Rattle.rows.specs.Chunk.{chunkOf, Evaluable, Writable}
 use Rattle.rows.proofs.Chunks.{chunk-at}
 
@@ -79,6 +81,9 @@ module _ (c : Code) (f row : List ℕ) (w : Writable c f row) where
   room-is : length row ≡ c .r * length (pointsOf c)
   room-is = w .room ∙ ap (λ (x : ℕ). c .r * x) (sym (w .code .counted))
 
+  pub room-top : length row ≤ longest
+  room-top = omega (arith, room-is, limits .numbers .row-top)
+
   -- the chunk of point i ends within the row
   pub chunk-fits : (i at : ℕ) → at ≡ c .r * i → i < c .count → at + c .r ≤ length row
   chunk-fits i at e l = omega (arith, w .room, mul-le-mul-left (c .r) l, mul-suc (c .r) i)
@@ -92,14 +97,24 @@ module _ (c : Code) (f row : List ℕ) (w : Writable c f row) where
   point-is : (i : ℕ) → i < c .count → getD (pointsOf c) i 0 ≡ getD (c .points) i 0
   point-is i l = getD-take (c .count) (c .points) i 0 l
 
-  pub evaluable : (parities : List ℕ) → Parities parities → (i : ℕ) → i < c .count → Evaluable (c .m) (c .r) (getD (c .points) i 0) f parities
-  evaluable parities t i l = record {
-    width = limits .numbers .width;
-    depth = limits .numbers .r-top;
+  pub width : Width (c .m)
+  width = limits .numbers .width
+
+  pub short : length f ≤ longest
+  short = omega (arith, w .message .size, limits .numbers .k-top, limits .numbers .row-top)
+
+  pub evaluable : (symbols logs powers parities : List ℕ) → LogsOf (c .m) f symbols → LogsFor (c .m) logs → PowersOf (c .m) powers → Parities parities
+      → (i : ℕ) → i < c .count → Evaluable (c .m) (c .r) (getD (c .points) i 0) f symbols logs powers parities
+  evaluable symbols logs powers parities s g p t i l = record {
+    width = width;
+    depth = depth-top;
     point = eq-lt (sym (point-is i l)) (limits .symbols i);
-    symbols = w .message .symbols;
-    short = omega (arith, w .message .size, limits .numbers .k-top, limits .numbers .row-top);
-    parity = t;
+    message = w .message .symbols;
+    short = short;
+    symbols-are = s;
+    logs-are = g;
+    powers-are = p;
+    parities-are = t;
   }
 
   pub written-more : (i at : ℕ) (row′ row″ chunk : List ℕ) → Progress (c .m) (c .r) (pointsOf c) f row i at row′ → i < c .count

@@ -8,8 +8,9 @@ use Rattle.defs.specs.Place.{tab, Symbols}
 use Rattle.defs.specs.Row.{Message}
 use Rattle.defs.specs.Limits.{deepest, longest}
 use Rattle.defs.specs.declared.Code.{Code}
-use Rattle.field.specs.Arithmetic.{Parities, Products}
+use Rattle.field.specs.Arithmetic.{Logarithm, Parities}
 use Rattle.code.specs.Checked.{IsCode}
+use Rattle.rows.specs.Tables.{PowersOf, LogsFor, LogsOf}
 
 unfoldable pub blank : List ℕ
 blank = replicate deepest 0
@@ -18,23 +19,28 @@ blank = replicate deepest 0
 unfoldable pub chunkOf : ℕ → (ℕ → ℕ) → List ℕ
 chunkOf r F = tab F r ++ drop r blank
 
--- a message f of symbols is evaluated at a point, to depth r
-pub record Evaluable (m r P : ℕ) (f parities : List ℕ) : Type 0 where
+-- a message f is evaluated at a point, to depth r
+pub record Evaluable (m r P : ℕ) (f symbols logs powers parities : List ℕ) : Type 0 where
   pub width : Width m
   pub depth : r ≤ deepest
   pub point : P < 2 ^ m
-  pub symbols : Symbols m f
+  pub message : Symbols m f
   pub short : length f ≤ longest
-  pub parity : Parities parities
+  pub symbols-are : LogsOf m f symbols
+  pub logs-are : LogsFor m logs
+  pub powers-are : PowersOf m powers
+  pub parities-are : Parities parities
 
--- the same with the products by the point, for the coefficient j alone
-pub record Tables (m P j : ℕ) (f products parities : List ℕ) : Type 0 where
+-- the coefficient j alone, at a point that is not 0 and has the logarithm step
+pub record Coefficient (m P j step : ℕ) (f symbols powers parities : List ℕ) : Type 0 where
   pub width : Width m
   pub depth : j < deepest
-  pub symbols : Symbols m f
+  pub logarithm : Logarithm m P step
+  pub message : Symbols m f
   pub short : length f ≤ longest
-  pub product : Products m P products
-  pub parity : Parities parities
+  pub symbols-are : LogsOf m f symbols
+  pub powers-are : PowersOf m powers
+  pub parities-are : Parities parities
 
 -- the row of a message f of the code is to be written over another
 pub record Writable (c : Code) (f row : List ℕ) : Type 0 where

@@ -1,2 +1,3 @@
 -- Chunks, and what the functions on rows are given.
+pub mod Tables
 pub mod Chunk

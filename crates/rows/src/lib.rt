@@ -2,13 +2,16 @@
 ghost use mathlib.Core.Path.{_≡_};
 ghost use Prim.Native.Nat.{_+_, _*_, _<_, _≤_};
 ghost use lib.ListN.{length, getD};
+ghost use Rattle.defs.specs.Field.{Width};
+ghost use Rattle.defs.specs.Place.{Symbols};
 ghost use Rattle.defs.specs.Row.{coefficient, rowOf};
 ghost use Rattle.defs.specs.Distance.{agree, damage, distance};
-ghost use Rattle.defs.specs.Limits.{deepest};
+ghost use Rattle.defs.specs.Limits.{deepest, longest};
 ghost use Rattle.defs.specs.Encode.{Encoded, distanceVerdict, distanceAnswer};
 ghost use Rattle.theory.specs.Fill.{filled};
 ghost use Rattle.code.specs.Checked.{pointsOf};
-ghost use Rattle.rows.specs.Chunk.{chunkOf, Evaluable, Tables, Writable, Chunks, Rows};
+ghost use Rattle.rows.specs.Tables.{PowersOf, LogsFor, LogsOf};
+ghost use Rattle.rows.specs.Chunk.{chunkOf, Coefficient, Evaluable, Writable, Chunks, Rows};
 use code::DEEPEST;
 use defs::Answer;
 use defs::Code;
@@ -16,37 +19,122 @@ use defs::LONGEST;
 use defs::Refusal;
 use defs::Verdict;
 
-// One Hasse coefficient of a message at a point, by Horner's rule; products are those by the point.
+// The logarithm of 0: it leads past the powers of every field, twice round, to where zeros stand.
+const NOWHERE: usize = 510;
+
+// The powers and the zeros behind them.
+const PLACES: usize = 766;
+
+// The powers of 2, twice round, with zeros behind them: a constant table would be built again at each look-up.
+fn powers(m: usize) -> [u8; PLACES]
+    requires { ⌜ Width m ⌝ }
+    ensures { λ t. ⌜ PowersOf m t ⌝ }
+{
+    let n = 2 * (code::field_size(m) - 1);
+    let mut table = [0u8; PLACES];
+    let mut x: u8 = 1;
+    let mut i = 0;
+    while i < n {
+        table[i] = x;
+        x = field::times2(m, x);
+        i += 1;
+    }
+    table
+}
+
+// The logarithm of each symbol.
+fn logs(m: usize, powers: &[u8; PLACES]) -> [usize; 256]
+    requires { ⌜ Width m ⌝ }
+    requires { ⌜ PowersOf m (now powers) ⌝ }
+    ensures { λ t. ⌜ LogsFor m t ⌝ }
+{
+    let order = code::field_size(m) - 1;
+    let mut table = [NOWHERE; 256];
+    let mut i = 0;
+    while i < order {
+        table[powers[i] as usize] = i;
+        i += 1;
+    }
+    table
+}
+
+// The logarithms of a message's symbols.
+fn message_logs(m: usize, message: &[u8], logs: &[usize; 256]) -> [usize; LONGEST]
+    requires { ⌜ Symbols m (now message) × (length (now message) ≤ longest) ⌝ }
+    requires { ⌜ LogsFor m (now logs) ⌝ }
+    ensures { λ t. ⌜ LogsOf m (now (message .entry)) t ⌝ }
+{
+    let mut table = [0usize; LONGEST];
+    let mut i = 0;
+    while i < message.len() {
+        table[i] = logs[message[i] as usize];
+        i += 1;
+    }
+    table
+}
+
+// One Hasse coefficient of a message at a point that is not 0. 2^step is the point and 2^e its power. Since size is one more than the
+// order of 2, the last line but one brings e down again, without a branch.
 fn coefficient(
     m: usize,
     point: u8,
     j: usize,
+    step: usize,
     message: &[u8],
-    products: &[u8; 256],
+    symbols: &[usize; LONGEST],
+    powers: &[u8; PLACES],
     parities: &[u8; 1024],
 ) -> u8
-    requires { ⌜ Tables m point j (now message) (now products) (now parities) ⌝ }
+    requires { ⌜ Coefficient m point j step (now message) (now symbols) (now powers) (now parities) ⌝ }
     ensures { λ c. ⌜ c ≡ coefficient m (now (message .entry)) point j ⌝ }
 {
+    let size = code::field_size(m);
+    let k = message.len();
     let mut sum: u8 = 0;
-    let mut i = message.len();
-    while j < i {
-        i -= 1;
-        sum = products[sum as usize] ^ parities[i * DEEPEST + j] * message[i];
+    let mut e = 0;
+    let mut i = j;
+    while i < k {
+        sum = sum ^ parities[i * DEEPEST + j] * powers[symbols[i] + e];
+        let next = e + step;
+        e = next % size + next / size;
+        i += 1;
     }
     sum
 }
 
+// The chunk of a message at 0: its first r symbols.
+fn at_zero(r: usize, message: &[u8]) -> [u8; 8]
+    requires { ⌜ r ≤ deepest ⌝ }
+    ensures { λ a. ⌜ a ≡ chunkOf r (λ j. getD (now (message .entry)) j 0) ⌝ }
+{
+    if message.len() < r {
+        return chunk_of(message, 0, message.len());
+    }
+    chunk_of(message, 0, r)
+}
+
 // The chunk of a message at a point: its first r Hasse coefficients.
-pub fn evaluate(m: usize, r: usize, point: u8, message: &[u8], parities: &[u8; 1024]) -> [u8; 8]
-    requires { ⌜ Evaluable m r point (now message) (now parities) ⌝ }
+pub fn evaluate(
+    m: usize,
+    r: usize,
+    point: u8,
+    message: &[u8],
+    symbols: &[usize; LONGEST],
+    logs: &[usize; 256],
+    powers: &[u8; PLACES],
+    parities: &[u8; 1024],
+) -> [u8; 8]
+    requires { ⌜ Evaluable m r point (now message) (now symbols) (now logs) (now powers) (now parities) ⌝ }
     ensures { λ a. ⌜ a ≡ chunkOf r (coefficient m (now (message .entry)) point) ⌝ }
 {
-    let products = field::product_row(m, point);
+    if point == 0 {
+        return at_zero(r, message);
+    }
+    let step = logs[point as usize];
     let mut chunk = [0u8; 8];
     let mut j = 0;
     while j < r {
-        chunk[j] = coefficient(m, point, j, message, &products, parities);
+        chunk[j] = coefficient(m, point, j, step, message, symbols, powers, parities);
         j += 1;
     }
     chunk
@@ -101,15 +189,28 @@ pub fn write_row(code: Code, message: &[u8], row: &mut [u8])
     requires { ⌜ Writable code (now message) (now row) ⌝ }
     ensures { λ _. ⌜ now (row .exit) ≡ rowOf (code .m) (code .r) (pointsOf code) (now (message .entry)) ⌝ }
 {
-    let parities = field::parities();
     let points = code.points;
     let m = code.m;
     let r = code.r;
     let count = code.count;
+    let parities = field::parities();
+    let powers = powers(m);
+    let logs = logs(m, &powers);
+    let symbols = message_logs(m, message, &logs);
     let mut at = 0;
     let mut i = 0;
     while i < count {
-        store(row, at, r, evaluate(m, r, points[i], message, &parities));
+        let chunk = evaluate(
+            m,
+            r,
+            points[i],
+            message,
+            &symbols,
+            &logs,
+            &powers,
+            &parities,
+        );
+        store(row, at, r, chunk);
         at += r;
         i += 1;
     }

@@ -1,0 +1,62 @@
+use Rattle.theory.proofs.Generator.{one-lt}
+-- `powers` meets its contract: the powers below i are written, and x is the next.
+-- Assumes nothing.
+use Prim.Native.Nat.{_-_}
+use native.Mathlib.Omega.{arith}
+use Rattle.rows.proofs.Lookup.{Powered, order-top, powers-first, powers-more, powers-last}
+use borrow.Author.Needs.{needs}
+use Rattle.rows.proofs.powers.Statement.{statement}
+use Rattle.rows.proofs.powers.Tie as tie
+
+abbrev Inv-loop : tie.InvT-loop
+Inv-loop m n table₀ x₀ i₀ table x i = Powered m i x table
+
+abbrev μ-loop : tie.MeasureT-loop
+μ-loop m n table₀ x₀ i₀ table x i = n - i
+
+field-size-requires : tie.Need-field-size-requires Inv-loop μ-loop
+field-size-requires c κs = search needs
+
+sub-n : tie.Need-sub-n Inv-loop μ-loop
+sub-n c = omega (arith, c .field-size .ensures, one-lt _ (c .before .pre))
+
+mul-n : tie.Need-mul-n Inv-loop μ-loop
+mul-n c = omega (arith, c .field-size .ensures, order-top _ (c .before .pre))
+
+loop-holds : tie.Need-loop-holds Inv-loop μ-loop
+loop-holds c = powers-first _ (c .before .pre)
+
+array-write-table : tie.Need-array-write-table Inv-loop μ-loop
+array-write-table c = omega (arith, order-top _ (c .before .before .before .pre), c .before .before .field-size .ensures)
+
+times2-requires : tie.Need-times2-requires Inv-loop μ-loop
+times2-requires c κs = (c .before .before .before .pre, c .before .loop .inv .next .small)
+
+add-i : tie.Need-add-i Inv-loop μ-loop
+add-i c = omega (arith, c .before .before .before .field-size .ensures, order-top _ (c .before .before .before .before .pre))
+
+loop-less : tie.Need-loop-less Inv-loop μ-loop
+loop-less c = search needs
+
+loop-again : tie.Need-loop-again Inv-loop μ-loop
+loop-again c = powers-more _ (c .before .before .before .before .pre) _ _ _ _ (c .before .before .loop .inv) (omega (arith, c .before .before .before .field-size .ensures)) (c .times2 .ensures)
+
+returns : tie.Need-returns Inv-loop μ-loop
+returns c = powers-last _ (c .before .before .before .pre) _ _ _ (c .before .loop .inv) (omega (arith, c .before .before .field-size .ensures))
+
+pub powers-spec : {M : Type 1} → statement M
+powers-spec =
+    tie.close
+    (tie.spec
+    Inv-loop
+    μ-loop
+    field-size-requires
+    sub-n
+    mul-n
+    loop-holds
+    array-write-table
+    times2-requires
+    add-i
+    loop-less
+    loop-again
+    returns)
