@@ -1,6 +1,5 @@
 // Decode: what the quotient of a pair is gets measured against the row; and the call.
 ghost use mathlib.Core.Path.{_≡_};
-ghost use Prim.Native.Nat.{_≤_};
 ghost use lib.ListN.{length};
 ghost use Rattle.defs.specs.Field.{Width};
 ghost use Rattle.defs.specs.Decode.{Decoded};

@@ -6,4 +6,4 @@ pub mod Handing
 pub mod Slips
 pub mod Lines
 pub mod Reading
-pub mod Outcomes
+pub mod Within

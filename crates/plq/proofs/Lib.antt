@@ -1,5 +1,3 @@
 -- What the proofs of the functions for C rest on.
 pub mod Verdicts
 pub mod Small
-pub mod Same
-pub mod Unpacked

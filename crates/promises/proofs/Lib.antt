@@ -1,3 +1,10 @@
 -- The promises.
 pub mod Encode
 pub mod Decode
+pub mod RoundTrip
+pub mod Slip
+pub mod Enough
+pub mod WorkedSlip
+pub mod Line
+pub mod Packed
+pub mod Unpacked

@@ -6,7 +6,3 @@ pub mod Packed
 pub mod Front
 pub mod Writer
 pub mod Reader
-pub mod RoundTrip
-pub mod Outcome
-pub mod Enough
-pub mod Worked

@@ -133,7 +133,7 @@ pub fn slip_write(
 }
 
 // What the header of a slip says.
-struct Head {
+pub struct Head {
     edition: usize,
     m: usize,
     r: usize,

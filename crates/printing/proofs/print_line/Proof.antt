@@ -2,7 +2,7 @@
 -- Assumes nothing.
 use lib.Seq.{length-take-le}
 use mathlib.Core.Path.{sym}
-use Rattle.line.proofs.Outcomes.{done-within}
+use Rattle.line.proofs.Within.{done-within}
 use borrow.Author.Needs.{needs}
 use Rattle.printing.proofs.print_line.Statement.{statement}
 use Rattle.printing.proofs.print_line.Tie as tie

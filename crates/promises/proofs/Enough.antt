@@ -1,5 +1,4 @@
 -- The first 260 bytes decide how a slip is read: what is longer is refused, and by the same number.
--- Assumes nothing.
 use Prim.Native.Nat.{ℕ, _+_, _*_, _≤_}
 use mathlib.Core.Bool.{Bool, true, false, not}
 use mathlib.Core.Path.{_≡_, refl, ap, sym, _∙_}

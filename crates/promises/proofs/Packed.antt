@@ -1,14 +1,12 @@
 -- One outcome: two packed answers that a call's contract allows are equal, and so are the buffers.
--- Assumes nothing.
 use Prim.Native.Nat.{ℕ}
 use mathlib.Core.Path.{_≡_, ap, sym, _∙_}
 use mathlib.Core.List.{List}
 use Rattle.defs.specs.Encode.{distanceAnswer}
-use Rattle.defs.specs.Decode.{Decoded}
-use Rattle.defs.specs.declared.Answer.{Answer}
-use Rattle.slip.proofs.Outcome.{written-same, read-same}
-use Rattle.line.proofs.Outcomes.{lined-unique}
+use Rattle.promises.proofs.Decode.{decode-same}
+use Rattle.promises.proofs.Slip.{written-same, read-same}
+use Rattle.promises.proofs.Line.{lined-unique}
 use Rattle.plq.specs.Packed.{packed, Packs, PackedEncoded, PackedDecoded, PackedWritten, PackedRead, PackedLined}
 
 -- equal answers are packed alike
 packs-same : {A : Type 0} {pack : A → ℕ} {C C′ : A → Type 0} {p q : ℕ} (x : Packs pack C p) (y : Packs pack C′ q) → x .answer ≡ y .answer → p ≡ q
@@ -18,15 +16,11 @@ pub packed-encode-same : {m r k : ℕ} {points message row : List ℕ} {p q : �
     → PackedEncoded m r k points message row p s → PackedEncoded m r k points message row q t → (p ≡ q) × (s ≡ t)
 packed-encode-same x y = (packs-same x y (x .call .answers ∙ sym (y .call .answers)), x .call .leaves ∙ sym (y .call .leaves))
 
--- one is that decode itself has one outcome
-module _ (m r k : ℕ) (points w message depth : List ℕ)
-    (one : (a b : Answer) (s t u v : List ℕ) → Decoded m r k points w message depth a s t → Decoded m r k points w message depth b u v
-    → (a ≡ b) × (s ≡ u) × (t ≡ v)) where
-  pub packed-decode-same : (p q : ℕ) (s t u v : List ℕ) → PackedDecoded m r k points w message depth p s t
-      → PackedDecoded m r k points w message depth q u v → (p ≡ q) × (s ≡ u) × (t ≡ v)
-  packed-decode-same p q s t u v x y =
-      let e = one (x .answer) (y .answer) s t u v (x .call) (y .call) in
-      (packs-same x y (e .0), e .1, e .2)
+pub packed-decode-same : (m r k : ℕ) (points w message depth : List ℕ) (p q : ℕ) (s t u v : List ℕ)
+    → PackedDecoded m r k points w message depth p s t → PackedDecoded m r k points w message depth q u v → (p ≡ q) × (s ≡ u) × (t ≡ v)
+packed-decode-same m r k points w message depth p q s t u v x y =
+    let e = decode-same m r k points w message depth (x .answer) (y .answer) s t u v (x .call) (y .call) in
+    (packs-same x y (e .0), e .1, e .2)
 
 pub packed-distance-same : (r : ℕ) (u w : List ℕ) {p q : ℕ} → p ≡ packed (distanceAnswer r u w) → q ≡ packed (distanceAnswer r u w) → p ≡ q
 packed-distance-same r u w x y = x ∙ sym y

@@ -1,14 +1,12 @@
 -- What is known of every outcome of the call: there is one, a refusal changes no buffer, and a buffer of 1024 bytes has room for it.
--- Assumes nothing.
 use Prim.Native.Nat.{ℕ, _≤_}
-use mathlib.Core.Path.{_≡_, ap, sym, _∙_}
+use mathlib.Core.Path.{_≡_, _∙_}
 use mathlib.Core.List.{List}
 use native.Mathlib.Omega.{arith}
-use lib.ListN.{length, drop, length-append}
+use lib.ListN.{length}
 use borrow.Author.Tests.{le-ltb}
 use Rattle.defs.specs.Refusal.{refuse, answer, kept}
 use Rattle.defs.specs.Limits.{Inside}
-use Rattle.defs.specs.Write.{front}
 use Rattle.defs.specs.Line.{RowLine, found, none, Line, refused, read, lineVerdict, Lined}
 use Rattle.defs.specs.declared.Refusal.{Refusal}
 use Rattle.defs.specs.declared.Verdict.{Verdict}
@@ -46,16 +44,6 @@ keeps (Refused y) n new old b x a e = e
 
 pub refused-keeps : (bytes buffer : List ℕ) (x : Refusal) (b : List ℕ) → Lined bytes buffer (No x) b → b ≡ buffer
 refused-keeps bytes buffer x b u = keeps _ _ _ buffer b x (u .answers) (u .leaves)
-
-holds : (v : Verdict) (text old b : List ℕ) (d : ℕ) → Done d ≡ answer v (length text) → b ≡ kept v (front text old) old → d ≤ length b
-unfolding answer kept front
-holds Fine text old b d a e =
-    let q : d ≡ length text = cc in
-    omega (arith, ap length e, length-append text (drop (length text) old))
-holds (Refused y) text old b d a e = let z : _≡_ {A = ℕ} 0 1 = cc in absurd (omega arith)
-
-pub done-within : (bytes buffer : List ℕ) (a : Answer) (d : ℕ) (b : List ℕ) → Lined bytes buffer a b → a ≡ Done d → d ≤ length b
-done-within bytes buffer a d b u e = holds _ (u .text) buffer b d (sym e ∙ u .answers) (u .leaves)
 
 -- with this much room the call is done
 pub enough : (bytes buffer : List ℕ) (a : Answer) (b : List ℕ) → room ≤ length buffer → (u : Lined bytes buffer a b) → a ≡ Done (length (u .text))

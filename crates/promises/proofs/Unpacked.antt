@@ -1,5 +1,4 @@
 -- What is packed can be read back: no part of an answer runs into another. These are the macros of include/plq.h.
--- Assumes nothing.
 use Prim.Native.Nat.{ℕ, _/_, _%_, _^_}
 use mathlib.Core.Path.{_≡_}
 use mathlib.Core.List.{List}

@@ -1,5 +1,4 @@
 -- What the contracts of the two calls fix: one outcome each, no buffer changed by a refusal, a slip of at most 259 bytes, and numbers that the reader never answers.
--- Assumes nothing.
 use Prim.Native.Nat.{ℕ, _+_, _<_, _≤_}
 use mathlib.Core.Bool.{Bool, true, false, _||_, not}
 use mathlib.Core.Path.{_≡_, refl, ap, sym, _∙_}
@@ -19,9 +18,9 @@ use Rattle.defs.specs.declared.Verdict.the-variants.{Fine, Refused}
 use Rattle.defs.specs.declared.Answer.{Answer}
 use Rattle.defs.specs.declared.Answer.the-variants.{Refused as No}
 use Rattle.defs.specs.declared.SlipRead.{SlipRead}
 use Rattle.slip.proofs.Bits.{all-bits-are, number-below}
 use Rattle.slip.proofs.Writer.{inside-width, writable, few, size-top}
-use Rattle.slip.proofs.RoundTrip.{length-slip}
+use Rattle.promises.proofs.RoundTrip.{length-slip}
 
 -- ---- two allowed outcomes are equal
 

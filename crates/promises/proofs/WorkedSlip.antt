@@ -1,5 +1,4 @@
 -- A slip worked by hand: the row of example 16 of the paper in six bytes.
--- Assumes nothing.
 use mathlib.Core.Path.{_≡_, refl}
 use mathlib.Core.List.{[], _∷_}
 use Rattle.defs.specs.Place.{tab}
