@@ -1,35 +1,23 @@
 -- The ways out of the check of the numbers, in its order.
--- Assumes nothing.
 use Prim.Native.Nat.{ℕ, _*_, _^_, _<_, _≤_}
 use mathlib.Core.Bool.{Bool, true, false, not}
 use mathlib.Core.Path.{_≡_, sym, _∙_}
 use native.Mathlib.Nat.{mul-le-mul, le-trans}
-use mathlib.Core.Logic.{inl, inr}
-use lib.Dec.{lit≤}
 use borrow.Author.Tests.{eq-eqb, ne-eqb, lt-ltb, le-ltb, not-true, not-false}
 use Rattle.defs.specs.Field.{Width}
 use Rattle.defs.specs.Refusal.{refuse}
 use Rattle.defs.specs.Limits.{deepest, longest, isWidth, numbersVerdict}
 use Rattle.defs.specs.declared.Refusal.the-variants.{Field, Depth, Points, Dimension}
 use Rattle.defs.specs.declared.Verdict.the-variants.{Fine, Refused}
+use Rattle.theory.proofs.Width.{field-top}
 use Rattle.theory.proofs.Limits.{width-known}
-
-pub size-top : (m : ℕ) → Width m → 2 ^ m ≤ 256
-size-top m (inl e) = rw e (lit≤ tt)
-size-top m (inr (inl e)) = rw e (lit≤ tt)
-size-top m (inr (inr e)) = rw e (lit≤ tt)
-
-pub width-8 : (m : ℕ) → Width m → (m ≡ 2 → ⊥) → (m ≡ 4 → ⊥) → m ≡ 8
-width-8 m (inl e) n2 n4 = absurd (n2 e)
-width-8 m (inr (inl e)) n2 n4 = absurd (n4 e)
-width-8 m (inr (inr e)) n2 n4 = e
 
 pub found-width : (m : ℕ) (b : Bool) → b ≡ isWidth m → not b ≡ false → Width m
 found-width m b e t = width-known m (sym e ∙ not-false b t)
 
 -- the product is formed only where it is this small
 pub product-small : (m r count size : ℕ) → Width m → r ≤ deepest → size ≡ 2 ^ m → count ≤ size → r * count ≤ 2048
-product-small m r count size w h e l = let top : size ≤ 256 = rw e (size-top m w) in mul-le-mul h (le-trans l top)
+product-small m r count size w h e l = let top : size ≤ 256 = rw e (field-top m w) in mul-le-mul h (le-trans l top)
 
 -- b is what the test of m found, and size what the size of the field was found to be
 module _ (m r k count : ℕ) (b : Bool) (found : b ≡ isWidth m) where

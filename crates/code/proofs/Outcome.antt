@@ -1,5 +1,4 @@
 -- The ways out of the check of symbols and of that of a code, and what its caller learns.
--- Assumes nothing.
 use Prim.Native.Nat.{ℕ, _<_, _≤_}
 use mathlib.Core.Path.{_≡_, refl, ap, _∙_}
 use mathlib.Core.List.{List}

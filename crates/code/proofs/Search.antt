@@ -1,18 +1,16 @@
 -- The searches for the least bad index: a symbol outside the field, and a symbol that equals an earlier one.
--- Assumes nothing.
 use Prim.Native.Nat.{ℕ, _+_, _^_, _<_}
 use mathlib.Core.Bool.{Bool, true, false}
 use mathlib.Core.Path.{_≡_, refl, ap, sym, _∙_}
 use mathlib.Core.List.{List}
 use native.Nat.{ℕᴺ-discrete}
-use native.Mathlib.Decide.{decLt}
 use native.Mathlib.Omega.{arith}
 use lib.Dec.{eqb, ltb, leb}
-use lib.ListN.{length, getD, set, replicate, length-set, length-replicate, getD-replicate, List·getD-eq-default}
+use lib.ListN.{length, getD, set, replicate, length-set, length-replicate}
 use lib.Seq.{getD-set-same, getD-set-other}
 use borrow.Author.Tests.{ltb-false, eqb-false, ne-eqb, le-ltb}
 use Rattle.defs.specs.Place.{least, firstHigh}
-use Rattle.theory.proofs.Place.{least-none, least-all}
+use Rattle.theory.proofs.Place.{least-none, least-all, zeros-zero}
 
 -- size is what the size of the field was found to be
 pub high-is : (m size : ℕ) (s : List ℕ) → size ≡ 2 ^ m → least (λ i. leb size (getD s i 0)) (length s) ≡ firstHigh m s
@@ -33,18 +31,11 @@ pub record Seen (s : List ℕ) (i : ℕ) (seen : List ℕ) : Type 0 where
   pub clear : (x : ℕ) → x < 256 → getD seen x 0 ≡ 0 → Fresh s i x
   pub marked : (x : ℕ) → (getD seen x 0 ≡ 0 → ⊥) → Fresh s i x → ⊥
 
-pub all-zero : (n x : ℕ) → getD (replicate {A = ℕ} n 0) x 0 ≡ 0
-all-zero n x = go (decLt x n)
-  where
-    go : Dec (x < n) → getD (replicate {A = ℕ} n 0) x 0 ≡ 0
-    go (yes l) = getD-replicate n x 0 0 l
-    go (no l) = List·getD-eq-default (replicate n 0) 0 {n = x} (omega (arith, length-replicate {A = ℕ} n 0))
-
 pub seen-first : (s : List ℕ) → Seen s 0 (replicate 256 0)
 seen-first s = record {
   size = length-replicate {A = ℕ} 256 0;
   clear = λ x h e j l. absurd (omega arith);
-  marked = λ x h f. h (all-zero 256 x);
+  marked = λ x h f. h (zeros-zero 256 x);
 }
 
 module _ (s : List ℕ) (i : ℕ) (seen : List ℕ) (h : Seen s i seen) where

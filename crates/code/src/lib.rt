@@ -11,12 +11,10 @@ ghost use Rattle.defs.specs.Limits.{isWidth, longest, numbersVerdict, firstTwic
 ghost use Rattle.defs.specs.Encode.{symbolsVerdict};
 ghost use Rattle.code.specs.Checked.{padded, refusedWith, checked};
 use defs::Code;
+use defs::DEEPEST;
 use defs::LONGEST;
 use defs::Refusal;
 use defs::Verdict;
-
-// The symbols that a chunk may have.
-pub const DEEPEST: usize = 8;
 
 // What the check of a code finds. The code is all zeros where it is refused.
 pub struct Checked {

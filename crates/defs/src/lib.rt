@@ -1,5 +1,8 @@
 // The types that the calls exchange. The definitions that contracts cite are in specs/; there is no function here.
 
+// The symbols that a chunk may have.
+pub const DEEPEST: usize = 8;
+
 // The symbols that a row may have, and so the points and the message.
 pub const LONGEST: usize = 128;
 

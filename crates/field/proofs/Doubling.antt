@@ -1,8 +1,7 @@
 -- The row of products of a scalar, by doubling the part that is filled.
 use mathlib.Core.Path.{_≡_, refl, sym, ap, ap₂, _∙_, subst}
-use mathlib.Core.Logic.{inl, inr}
 use mathlib.Core.List.{List}
-use Prim.Native.Nat.{ℕ, zero, suc, _+_, _*_, _-_, _^_, _<_, _≤_}
+use Prim.Native.Nat.{ℕ, suc, _+_, _*_, _-_, _^_, _<_, _≤_}
 use native.Mathlib.Nat.{one-mul, pow-suc}
 use native.Mathlib.Numerals.{add-one}
 use native.Mathlib.Decide.{decLt}
@@ -13,15 +12,9 @@ use lib.ListN.{length, getD, set, length-set, replicate}
 use lib.Seq.{getD-set-same, getD-set-other}
 use Rattle.defs.specs.Field.{Width, add, times2, mul}
 use Rattle.theory.proofs.Field as F
+use Rattle.theory.proofs.Place.{zeros-zero}
+use Rattle.theory.proofs.Width.{field-top}
 use Rattle.field.specs.Arithmetic.{Element, Products, Doubled}
-
-pub width-le : (m : ℕ) → Width m → m ≤ 8
-width-le m (inl e) = omega arith
-width-le m (inr (inl e)) = omega arith
-width-le m (inr (inr e)) = omega arith
-
-pub size-le : (m : ℕ) → Width m → 2 ^ m ≤ 256
-size-le m w = pow-mono (width-le m w)
 
 -- either way round
 by-order : {P : Type 0} (a b : ℕ) → (a < b → P) → (b ≤ a → P) → P
@@ -70,19 +63,14 @@ pub record Filled (m c i size step : ℕ) (row : List ℕ) : Type 0 where
   pub next : i < m → step ≡ mul m c (2 ^ i)
   pub small-step : step < 2 ^ m
 
-zeros : (n x : ℕ) → getD (replicate {A = ℕ} n 0) x 0 ≡ 0
-zeros zero x = refl
-zeros (suc n) zero = refl
-zeros (suc n) (suc x) = zeros n x
-
 module _ (m c : ℕ) where
   pub first-fill : c < 2 ^ m → Filled m c 0 1 c (replicate 256 0)
   first-fill h = record {
     place = omega arith;
     count = refl;
     long = refl;
-    at = λ x l. zeros 256 x ∙ sym (F.mul-0 m c) ∙ ap (mul m c) (omega arith);
-    small = λ x. rw (zeros 256 x) (pow-pos m);
+    at = λ x l. zeros-zero 256 x ∙ sym (F.mul-0 m c) ∙ ap (mul m c) (omega arith);
+    small = λ x. rw (zeros-zero 256 x) (pow-pos m);
     next = λ l. sym (F.mul-comm m c 1 ∙ F.one-mul-of-lt m c h);
     small-step = h;
   }
@@ -135,7 +123,7 @@ module _ (m c : ℕ) where
     })
 
   pub room : {i size step : ℕ} {row : List ℕ} → Width m → i < m → Filled m c i size step row → size + size ≤ 256
-  room {i} w h f = omega (arith, f .count, pow-suc 2 i, pow-mono {i = suc i} h, size-le m w)
+  room {i} w h f = omega (arith, f .count, pow-suc 2 i, pow-mono {i = suc i} h, field-top m w)
 
   pub last-fill : {i size step : ℕ} {row : List ℕ} → m ≤ i → Filled m c i size step row → Products m c row
   last-fill {i} h f =

@@ -1,6 +1,5 @@
 -- What products, inverses and powers come to, by the powers of 2.
 use mathlib.Core.Path.{_≡_, sym, ap, ap₂, _∙_, subst}
-use mathlib.Core.Logic.{inl, inr}
 use mathlib.Core.List.{List}
 use Prim.Native.Nat.{ℕ, _+_, _*_, _-_, _^_, _<_}
 use lib.ListN.{getD}
@@ -9,12 +8,6 @@ use Rattle.defs.specs.Field.{Width, mul, pow}
 use Rattle.theory.proofs.Field as F
 use Rattle.theory.proofs.Generator.{one-lt, inverse-power}
 use Rattle.field.specs.Arithmetic.{Element, Inverse, Powers, Logarithm, Logarithms}
-
--- neither 2 nor 4
-pub width-8 : (m : ℕ) → Width m → (m ≡ 2 → ⊥) → (m ≡ 4 → ⊥) → m ≡ 8
-width-8 m (inl e) n₂ n₄ = absurd (n₂ e)
-width-8 m (inr (inl e)) n₂ n₄ = absurd (n₄ e)
-width-8 m (inr (inr e)) n₂ n₄ = e
 
 -- what the table of one width says, said of m
 pub power-in : (m : ℕ) → Width m → {n : ℕ} {table : List ℕ} → m ≡ n → Powers n table

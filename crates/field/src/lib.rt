@@ -1,8 +1,8 @@
 // Arithmetic of the fields with 4, 16 and 256 elements, and parities of binomials.
 mod tables;
 
+use defs::DEEPEST;
 use defs::LONGEST;
-use tables::DEEPEST;
 use tables::EXP;
 use tables::EXP4;
 use tables::EXP16;

@@ -1,9 +1,7 @@
 // The tables: powers of 2 and logarithms in each field, and parities of binomials. Each rule is proved over the whole table.
 
+use defs::DEEPEST;
 use defs::LONGEST;
-
-// The symbols that a chunk may have.
-pub const DEEPEST: usize = 8;
 
 // 2^i at i, in the field with 256 elements.
 pub const EXP: [u8; 510] = [

@@ -1,5 +1,4 @@
 -- A text that is handed out to a caller's buffer.
--- Assumes nothing.
 use Prim.Native.Nat.{ℕ, _≤_, _<_}
 use mathlib.Core.Path.{_≡_}
 use mathlib.Core.List.{List}

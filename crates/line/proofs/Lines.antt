@@ -1,5 +1,4 @@
 -- The line of a row that was decoded; a line fits a buffer of 1024 bytes.
--- Assumes nothing.
 use Prim.Native.Nat.{ℕ, _*_, _<_, _≤_}
 use mathlib.Core.Path.{_≡_}
 use mathlib.Core.List.{List}
@@ -23,7 +22,7 @@ use Rattle.defs.specs.declared.Answer.the-variants.{Done, Refused as No}
 use Rattle.theory.specs.Limits.{Limits}
 use Rattle.theory.proofs.Place.{length-tab, getD-tab}
 use Rattle.theory.proofs.Limits.{inside-known, count-small, then-fine}
-use Rattle.slip.proofs.Width.{field-top}
+use Rattle.theory.proofs.Width.{field-top}
 use Rattle.line.specs.Text.{room, Wrote, RowText}
 use Rattle.line.proofs.Lengths.{refused-short, done-short}
 use Rattle.line.proofs.Slips.{inside, refused-place}

@@ -1,5 +1,4 @@
 -- What is known of bytes that are read as a slip: its code is inside the limits and its row is one that the decoder takes.
--- Assumes nothing.
 use Prim.Native.Nat.{ℕ, _+_, _*_, _^_, _<_, _≤_}
 use mathlib.Core.Bool.{Bool, true, false}
 use mathlib.Core.Path.{_≡_, refl}

@@ -1,25 +1,19 @@
 -- The equations of one chunk: the depths at its point, and then its symbols' multiples of them, added one after another.
--- Assumes nothing.
 use Prim.Native.Nat.{ℕ, suc, _+_, _*_, _-_, _<_, _≤_, min}
 use mathlib.Core.Path.{_≡_, ap, ap₂, sym, subst, _∙_}
 use mathlib.Core.Logic.{⊎-elim}
 use mathlib.Core.List.{List}
-use native.Mathlib.Nat.{le-antisymm, add-zero}
+use native.Mathlib.Nat.{le-antisymm}
+use native.Mathlib.Numerals.{add-one}
 use native.Mathlib.Omega.{arith}
 use lib.ListN.{getD}
 use Rattle.defs.specs.Field.{add, mul}
 use Rattle.defs.specs.Row.{sum}
-use Rattle.theory.proofs.Field.{add-0}
-use Rattle.theory.proofs.Sum.{sum-ext}
+use Rattle.theory.proofs.Sum.{sum-ext, sum-last}
 use Rattle.solve.specs.Table.{stride, at}
 use Rattle.solve.proofs.Sums.{lt-or-le}
 use Rattle.pair.specs.Equation.{powerAt, mixedAt}
 use Rattle.pair.specs.Fill.{Powers, Added, Chunk}
-use Rattle.pair.proofs.Expand.{sum-split}
-
-sum-last : (n : ℕ) (F : ℕ → ℕ) → sum (n + 1) F ≡ add (sum n F) (F n)
-unfolding sum
-sum-last n F = sum-split n 1 F ∙ ap (add (sum n F)) (add-0 _ ∙ ap F (add-zero n))
 
 module _ (m P : ℕ) (w : ℕ → ℕ) where
   mixed-none : (j a : ℕ) → mixedAt m P w 0 j a ≡ 0
@@ -32,7 +26,7 @@ module _ (m P : ℕ) (w : ℕ → ℕ) where
       let e : min (b + 1) (suc j) ≡ b + 1 = omega arith in
       let d : b ≡ min b (suc j) = omega arith in
       let F : ℕ → ℕ = λ c. mul m (w c) (powerAt (mul m P) (j - c) a) in
-      ap (λ (n : ℕ). sum n F) e ∙ sum-last b F ∙ ap (λ (n : ℕ). add (sum n F) (F b)) d
+      ap (λ (n : ℕ). sum n F) e ∙ ap (λ (n : ℕ). sum n F) (add-one b) ∙ sum-last b F ∙ ap (λ (n : ℕ). add (sum n F) (F b)) d
 
   mixed-past : (b j a : ℕ) → j < b → mixedAt m P w (b + 1) j a ≡ mixedAt m P w b j a
   unfolding mixedAt

@@ -1,5 +1,4 @@
 -- The equations of all chunks, one chunk after another, and the numbers of a checked code behind them.
--- Assumes nothing.
 use Prim.Native.Nat.{ℕ, _+_, _*_, _-_, _<_, _≤_}
 use mathlib.Core.Path.{_≡_, refl, ap, sym, subst, _∙_}
 use mathlib.Core.Logic.{⊎-elim}

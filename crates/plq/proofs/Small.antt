@@ -1,5 +1,4 @@
 -- Every answer that a call may give is small enough to be packed.
--- Assumes nothing.
 use Prim.Native.Nat.{ℕ, _+_, _/_, _^_, _<_}
 use mathlib.Core.Path.{_≡_, refl}
 use mathlib.Core.List.{List}
@@ -27,7 +26,7 @@ use Rattle.theory.proofs.Limits.{then-fine, inside-known}
 use Rattle.theory.proofs.Checks.{decode-known}
 use Rattle.theory.proofs.Distance.{distance-agreement}
 use Rattle.rows.proofs.Outcome.{distance-rows}
-use Rattle.slip.proofs.Width.{width-top}
+use Rattle.theory.proofs.Width.{width-top}
 use Rattle.slip.proofs.Writer.{inside-width, writable, few, size-top}
 use Rattle.slip.proofs.Reader.{Sound, sound, points-few}
 use Rattle.line.proofs.Lines.{line-short}

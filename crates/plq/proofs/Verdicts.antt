@@ -1,5 +1,4 @@
 -- Every place that a call's checks may name is below 2 ^ 8.
--- Assumes nothing.
 use Prim.Native.Nat.{ℕ, _*_, _^_, _<_}
 use mathlib.Core.Bool.{Bool, true, false, not}
 use mathlib.Core.Path.{_≡_, refl}

@@ -1,5 +1,4 @@
 -- What stands in a chunk, and how its agreement with another grows symbol by symbol.
--- Assumes nothing.
 use Prim.Native.Nat.{ℕ, _+_, _-_, _<_, _≤_}
 use mathlib.Core.Path.{_≡_, refl, ap, sym, _∙_}
 use mathlib.Core.List.{List, _++_}
@@ -13,9 +12,8 @@ use Rattle.defs.specs.Limits.{deepest}
 use Rattle.defs.specs.Distance.{agree}
 use Rattle.theory.specs.Fill.{filled}
 use Rattle.theory.proofs.Fill.{filled-none, filled-next, filled-front}
-use Rattle.theory.proofs.Place.{length-tab, getD-tab, tab-same}
+use Rattle.theory.proofs.Place.{length-tab, getD-tab, tab-same, zeros-zero}
 use Rattle.theory.proofs.Agree.{agree-le, agree-eq, agree-max}
-use Rattle.code.proofs.Search.{all-zero}
 use Rattle.rows.specs.Chunk.{blank, chunkOf}
 
 pub length-blank : length blank ≡ deepest
@@ -35,7 +33,7 @@ unfolding chunkOf blank
 chunk-behind r F j l =
     let e : j ≡ length (tab F r) + (j - r) = omega (arith, length-tab F r) in
     ap (λ (x : ℕ). getD (tab F r ++ drop r (replicate deepest 0)) x 0) e ∙ getD-append-add (tab F r) _ (j - r) 0
-    ∙ getD-drop r (replicate deepest 0) (j - r) 0 ∙ all-zero deepest (r + (j - r))
+    ∙ getD-drop r (replicate deepest 0) (j - r) 0 ∙ zeros-zero deepest (r + (j - r))
 
 -- the first symbols of a list that ends within the chunk
 pub chunk-short : (s : List ℕ) (r : ℕ) → length s ≤ r → r ≤ deepest → chunkOf (length s) (λ j. getD s (0 + j) 0) ≡ chunkOf r (λ j. getD s j 0)

@@ -1,5 +1,4 @@
 -- One Hasse coefficient, added up from the lowest power, with powers of the point by their logarithms.
--- Assumes nothing.
 use Prim.Native.Nat.{ℕ, zero, suc, _+_, _*_, _-_, _/_, _%_, _^_, _<_, _≤_}
 use mathlib.Core.Path.{_≡_, refl, ap, ap₂, sym, _∙_}
 use mathlib.Core.List.{List, [], _∷_}
@@ -12,12 +11,12 @@ use Rattle.defs.specs.Field.{Width, add, mul, pow, binom}
 use Rattle.defs.specs.Place.{Symbols}
 use Rattle.defs.specs.Limits.{deepest}
 use Rattle.defs.specs.Row.{sum, sumFrom, coefficient}
-use Rattle.theory.proofs.Field.{bit, add-assoc, add-0, 0-add, 0-mul, mul-comm, mul-lt, pow-lt, pow-add, one-mul-of-lt}
-use Rattle.theory.proofs.Sum.{sum-ext}
+use Rattle.theory.proofs.Field.{bit, add-0, 0-mul, mul-comm, mul-lt, pow-lt, pow-add, one-mul-of-lt}
+use Rattle.theory.proofs.Sum.{sum-ext, sum-last}
 use Rattle.theory.specs.Poly.{h}
 use Rattle.theory.proofs.Formula.{coefficient-h}
 use Rattle.theory.proofs.Generator.{one-lt, order}
-use Rattle.code.proofs.Numbers.{size-top}
+use Rattle.theory.proofs.Width.{field-top}
 use Rattle.rows.specs.Tables.{places}
 use Rattle.rows.specs.Chunk.{chunkOf, Coefficient, Evaluable}
 use Rattle.rows.proofs.Chunks.{chunk-same}
@@ -30,11 +29,6 @@ term m f P j x = binom (j + x) j % 2 * mul m (getD f (j + x) 0) (pow m P x)
 coefficient-is : (m P : ℕ) (f : List ℕ) (j : ℕ) → sum (length f - j) (term m f P j) ≡ coefficient m f P j
 unfolding coefficient sumFrom
 coefficient-is m P f j = sum-ext (length f - j) _ _ (λ x l. rw (add-sub-cancel-left j x))
-
-sum-last : (n : ℕ) (F : ℕ → ℕ) → sum (suc n) F ≡ add (sum n F) (F n)
-unfolding sum
-sum-last zero F = add-0 (F 0) ∙ sym (0-add (F 0))
-sum-last (suc n) F = ap (add (F 0)) (sum-last n (λ i. F (suc i))) ∙ sym (add-assoc (F 0) _ _)
 
 masked : (n y : ℕ) → n % 2 * y ≤ y
 masked n y = bit (λ p. p * y ≤ y) (omega arith) (omega arith) n
@@ -91,7 +85,7 @@ module _ (m P j step : ℕ) (f symbols powers parities : List ℕ) (t : Coeffici
     term-is = let s : j + (i - j) ≡ i = add-sub-of-le (a .low) in rw (s, parity, product)
 
     pub term-byte : getD parities (i * deepest + j) 0 * getD powers (getD symbols i 0 + e) 0 < 256
-    term-byte = rw (parity, product) (lt-of-le-of-lt (masked (binom i j) _) (lt-of-lt-of-le (mul-lt m (getD f i 0) _) (size-top m (t .width))))
+    term-byte = rw (parity, product) (lt-of-le-of-lt (masked (binom i j) _) (lt-of-lt-of-le (mul-lt m (getD f i 0) _) (field-top m (t .width))))
 
     pub added-more : (e′ : ℕ) → Stepped m e step e′
         → Added m P f j (i + 1) e′ (bitXor total (getD parities (i * deepest + j) 0 * getD powers (getD symbols i 0 + e) 0))

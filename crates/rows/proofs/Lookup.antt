@@ -1,5 +1,4 @@
 -- The tables of powers and logarithms as the loops make them, and products looked up in them.
--- Assumes nothing.
 use Prim.Native.Nat.{ℕ, _+_, _*_, _-_, _^_, _<_, _≤_}
 use mathlib.Core.Path.{_≡_, refl, ap, sym, subst, _∙_}
 use mathlib.Core.Logic.{inl, inr}
@@ -15,14 +14,13 @@ use Rattle.defs.specs.Place.{tab, Symbols}
 use Rattle.defs.specs.Limits.{longest}
 use Rattle.theory.specs.Fill.{filled}
 use Rattle.theory.proofs.Field.{pow-lt, pow-add, two-mul, 0-mul}
-use Rattle.theory.proofs.Place.{length-tab, getD-tab}
+use Rattle.theory.proofs.Place.{length-tab, getD-tab, zeros-zero}
 use Rattle.theory.proofs.Fill.{filled-none, filled-next, filled-front}
 use Rattle.theory.proofs.Generator.{one-lt, generates, inverse-power}
 use Rattle.field.specs.Arithmetic.{Logarithm, Element}
 use Rattle.code.specs.Checked.{zeros}
 use Rattle.code.proofs.Outcome.{length-zeros}
-use Rattle.code.proofs.Numbers.{size-top}
-use Rattle.code.proofs.Search.{all-zero}
+use Rattle.theory.proofs.Width.{field-top}
 use Rattle.rows.specs.Tables.{nowhere, places, LogOf, PowersOf, LogsFor, LogsOf}
 
 -- what stands in a list whose front has been filled
@@ -47,7 +45,7 @@ long = refl
 
 bare : (i : ℕ) → getD room i 0 ≡ 0
 unfolding room
-bare i = all-zero places i
+bare i = zeros-zero places i
 
 -- the powers below i are written, and x is the next
 pub record Powered (m i x : ℕ) (table : List ℕ) : Type 0 where
@@ -62,7 +60,7 @@ wide m (inr (inr e)) = omega arith
 
 module _ (m : ℕ) (w : Width m) where
   pub order-top : 2 ^ m - 1 ≤ 255
-  order-top = omega (arith, size-top m w)
+  order-top = omega (arith, field-top m w)
 
   pub powers-first : Powered m 0 1 (replicate places 0)
   unfolding room pow
@@ -100,7 +98,7 @@ module _ (m : ℕ) (w : Width m) where
   not-zero i l e = omega (arith, sym (inverse-power m w i l) ∙ ap (λ (x : ℕ). mul m x (pow m 2 (2 ^ m - 1 - i))) e ∙ 0-mul m _)
 
   power-byte : (i : ℕ) → pow m 2 i < 256
-  power-byte i = lt-of-lt-of-le (pow-lt m 2 i (one-lt m w)) (size-top m w)
+  power-byte i = lt-of-lt-of-le (pow-lt m 2 i (one-lt m w)) (field-top m w)
 
   pub entry-byte : (powers : List ℕ) → PowersOf m powers → (i : ℕ) → i < 2 ^ m - 1 → getD powers i 0 < 256
   entry-byte powers p i l = rw (p .at i (omega arith)) (power-byte i)

@@ -1,5 +1,4 @@
 -- Damage and distance as the loops find them.
--- Assumes nothing.
 use Prim.Native.Nat.{ℕ, _+_, _*_, _-_, _<_, _≤_}
 use mathlib.Core.Path.{_≡_, refl, ap, _∙_}
 use mathlib.Core.List.{List}

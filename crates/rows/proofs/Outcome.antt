@@ -1,8 +1,7 @@
 -- The ways out of the calls encode and distance, in their order.
--- Assumes nothing.
 use Prim.Native.Nat.{ℕ, _+_, _*_, _/_, _%_, _<_, _≤_}
-use mathlib.Core.Bool.{Bool, true, false, _||_, not}
-use mathlib.Core.Path.{_≡_, refl, sym, _∙_}
+use mathlib.Core.Bool.{false, _||_, not}
+use mathlib.Core.Path.{_≡_, sym, _∙_}
 use mathlib.Core.List.{List}
 use native.Mathlib.Nat.{div-add-mod', mul-le-mul-left}
 use native.Mathlib.Omega.{arith}
@@ -20,7 +19,7 @@ use Rattle.defs.specs.declared.Verdict.the-variants.{Fine, Refused}
 use Rattle.defs.specs.declared.Answer.the-variants.{Done, Refused as No}
 use Rattle.defs.specs.declared.Code.{Code}
 use Rattle.theory.proofs.Place.{none-high}
-use Rattle.theory.proofs.Limits.{refuse-fine}
+use Rattle.theory.proofs.Limits.{refuse-fine, or-false}
 use Rattle.code.specs.Checked.{pointsOf}
 use Rattle.code.proofs.Outcome.{Passed}
 use Rattle.rows.specs.Chunk.{Rows, Writable}
@@ -60,10 +59,6 @@ module _ (r n n′ : ℕ) where
             pub lengths-fine : n % r ≡ 0 → Fine ≡ distanceVerdict r n n′
             unfolding distanceVerdict refuse
             lengths-fine t = rw (ne-eqb r 0 t1, le-ltb deepest r t2, eq-eqb n n′ t3, ne-eqb n 0 t4, le-ltb longest n t5, eq-eqb (n % r) 0 t)
-
-or-false : (a b : Bool) → a || b ≡ false → (a ≡ false) × (b ≡ false)
-or-false true b e = (e, let z : _≡_ {A = ℕ} 0 1 = cc in absurd (omega arith))
-or-false false b e = (refl, e)
 
 module _ (r : ℕ) (u w : List ℕ) where
   pub distance-refused : (x : Refusal) → distanceVerdict r (length u) (length w) ≡ Refused x → No x ≡ distanceAnswer r u w

@@ -1,5 +1,4 @@
 -- What the loops that write a slip, and symbols that are read, leave in a buffer.
--- Assumes nothing.
 use Prim.Native.Nat.{ℕ, _+_, _*_}
 use mathlib.Core.Path.{_≡_, _∙_}
 use mathlib.Core.List.{List}

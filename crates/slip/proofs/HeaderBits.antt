@@ -1,5 +1,4 @@
 -- The header of a slip: the number that its 24 bits make, written and read.
--- Assumes nothing.
 use Prim.Native.Nat.{ℕ, _+_, _*_, _-_, _/_, _%_, _^_}
 use mathlib.Core.Path.{_≡_, refl, _∙_}
 use mathlib.Core.List.{List}
@@ -15,7 +14,7 @@ use Rattle.defs.specs.Slip.{allBits, numberAt, headerBits, editionIn, widthIn, 
 use Rattle.theory.specs.Limits.{Numbers}
 use Rattle.theory.proofs.Limits.{count-small}
 use Rattle.slip.specs.Head.{Fitting, Heads}
-use Rattle.slip.proofs.Width.{by-width, width-top}
+use Rattle.theory.proofs.Width.{by-width, width-top}
 use Rattle.slip.proofs.Bits.{all-bits-are, number-split, number-inside, number-fields, number-field, number-past, number-bits, number-symbol}
 
 pub fitting : (m r k count : ℕ) → Numbers m r k count → Fitting m r k count

@@ -1,6 +1,5 @@
 -- The laws of slips.
 pub mod Bits
-pub mod Width
 pub mod HeaderBits
 pub mod Packed
 pub mod Front

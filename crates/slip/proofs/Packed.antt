@@ -1,5 +1,4 @@
 -- Points and symbols in bytes, over the width: how a byte is packed, how a symbol is read out of its byte, and what bits the bytes of a slip have.
--- Assumes nothing.
 use Prim.Native.Nat.{ℕ, _+_, _*_, _-_, _/_, _%_, _^_, _<_, _≤_}
 use mathlib.Core.Path.{_≡_, refl, sym, _∙_}
 use mathlib.Core.List.{List, _++_}
@@ -11,7 +10,7 @@ use Rattle.defs.specs.Field.{Width}
 use Rattle.defs.specs.Place.{tab, Symbols}
 use Rattle.defs.specs.Slip.{bits, allBits, numberAt, headerBits, slipBits}
 use Rattle.theory.proofs.Place.{getD-tab}
-use Rattle.slip.proofs.Width.{by-width}
+use Rattle.theory.proofs.Width.{by-width}
 use Rattle.slip.proofs.Bits.{symbols-append, bits-are, all-bits-are, number-same, number-below, number-split, number-inside, number-front, number-behind, number-symbol}
 
 -- ---- a byte packed, a symbol a turn; left of its symbols are still to come

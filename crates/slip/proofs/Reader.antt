@@ -1,5 +1,4 @@
 -- The ways out of the slip reader, and what its own functions rely on.
--- Assumes nothing.
 use Prim.Native.Nat.{ℕ, _+_, _*_, _<_, _≤_}
 use mathlib.Core.Path.{_≡_, sym}
 use mathlib.Core.List.{List, []}

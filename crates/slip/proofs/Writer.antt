@@ -1,5 +1,4 @@
 -- The ways out of the slip writer, and what its own functions rely on.
--- Assumes nothing.
 use Prim.Native.Nat.{ℕ, _+_, _*_, _<_, _≤_}
 use mathlib.Core.Path.{_≡_}
 use mathlib.Core.List.{List, _++_}
@@ -22,7 +21,7 @@ use Rattle.defs.specs.declared.Answer.the-variants.{Done, Refused as No}
 use Rattle.theory.proofs.Place.{none-high}
 use Rattle.theory.proofs.Limits.{refuse-fine, then-fine, inside-known, count-small}
 use Rattle.slip.specs.Head.{Fitting}
-use Rattle.slip.proofs.Width.{width-top}
+use Rattle.theory.proofs.Width.{width-top}
 use Rattle.slip.proofs.Bits.{symbols-append}
 use Rattle.slip.proofs.HeaderBits.{fitting}
 

@@ -1,5 +1,4 @@
 -- The turns at one column: its pivot is made 1 and brought to row c, and the rows after it are cleared.
--- Assumes nothing.
 use mathlib.Core.Path.{_≡_, sym, ap, ap₂, _∙_}
 use mathlib.Core.Logic.{⊎-elim}
 use Prim.Native.Nat.{ℕ, _+_, _^_, _<_, _≤_}

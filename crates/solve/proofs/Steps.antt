@@ -1,5 +1,4 @@
 -- Row operations keep the solutions, and keep the stairs to the left of the column at which they work.
--- Assumes nothing.
 use mathlib.Core.Path.{_≡_, sym, ap, ap₂, _∙_}
 use mathlib.Core.Logic.{⊎-elim}
 use Prim.Native.Nat.{ℕ, _^_, _<_, _≤_}

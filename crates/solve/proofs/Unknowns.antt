@@ -1,5 +1,4 @@
 -- Back substitution: the turns that put the unknowns into column c, from the last row up.
--- Assumes nothing.
 use mathlib.Core.Path.{_≡_, refl, sym, ap, ap₂, subst, _∙_}
 use mathlib.Core.Logic.{⊎-elim}
 use Prim.Native.Nat.{ℕ, suc, _^_, _<_, _≤_}

@@ -1,5 +1,4 @@
 -- Loops that add f times an entry of the table to another one, one a turn.
--- Assumes nothing.
 use mathlib.Core.Path.{_≡_, refl, sym, ap, ap₂, _∙_}
 use mathlib.Core.List.{List}
 use mathlib.Core.Logic.{⊎-elim}
@@ -11,14 +10,14 @@ use Rattle.defs.specs.Field.{Width, add, mul}
 use Rattle.defs.specs.Place.{Symbols}
 use Rattle.field.specs.Arithmetic.{Products}
 use Rattle.theory.proofs.Field.{add-0, add-lt, mul-0, mul-comm}
-use Rattle.field.proofs.Doubling.{size-le}
+use Rattle.theory.proofs.Width.{field-top}
 use Rattle.solve.specs.Table.{stride, tableSize, at, Shape}
 use Rattle.solve.specs.Step.{Added, Spread}
 use Rattle.solve.proofs.Sums.{eq-or-not, lt-or-le}
 use Rattle.solve.proofs.Free.{eq-lt}
 
 pub byte : {m a : ℕ} → Width m → a < 2 ^ m → a < 256
-byte {m} W h = omega (arith, size-le m W)
+byte {m} W h = omega (arith, field-top m W)
 
 -- t is the table t₀ where, for a ≤ j < n, f times the entry at s j has been added to the entry at p j
 pub record Wrote (m f : ℕ) (p s : ℕ → ℕ) (t₀ : List ℕ) (a n : ℕ) (t : List ℕ) : Type 0 where

@@ -1,5 +1,4 @@
 -- The agreement of two chunks is the longest front on which they are equal; it is symmetric, and no less than the lesser of those with a third.
--- Assumes nothing.
 use Prim.Native.Nat.{ℕ, _<_, _≤_, min}
 use mathlib.Core.Path.{_≡_, sym, _∙_}
 use mathlib.Core.Bool.{not}

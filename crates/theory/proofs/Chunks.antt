@@ -1,5 +1,4 @@
 -- Rows of chunks with a depth each: their distance is symmetric, has the triangle inequality, and with the agreement makes up the total depth.
--- Assumes nothing.
 use Prim.Native.Nat.{ℕ, _+_, _-_, _<_, _≤_}
 use mathlib.Core.Path.{_≡_, sym, _∙_}
 use native.Mathlib.Omega.{arith}

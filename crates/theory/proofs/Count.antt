@@ -1,5 +1,4 @@
 -- Root counting: a polynomial whose degree is below the total depth of its zeros at distinct points is 0.
--- Assumes nothing.
 use Prim.Native.Nat.{ℕ, zero, suc, _+_, _^_, _<_, zero-le}
 use mathlib.Core.Path.{_≡_, _∙_}
 use mathlib.Core.List.{List}

@@ -1,5 +1,4 @@
 -- Theorem 6 of the paper, with a depth for each chunk: how deep the rows of two different messages agree, and that the bound is attained.
--- Assumes nothing.
 use Prim.Native.Nat.{ℕ, zero, suc, _+_, _-_, _^_, _<_, _≤_, min}
 use mathlib.Core.Path.{_≡_, sym, _∙_}
 use mathlib.Core.List.{List}

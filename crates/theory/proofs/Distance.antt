@@ -1,5 +1,4 @@
 -- The distance of flat rows: symmetric, with the triangle inequality, 0 exactly for equal rows, and with the agreement the length of a row.
--- Assumes nothing.
 use Prim.Native.Nat.{ℕ, zero, suc, _+_, _*_, _/_, _%_, _<_, _≤_}
 use mathlib.Core.Path.{_≡_, refl, ap, sym, subst, _∙_}
 use mathlib.Core.List.{List}

@@ -1,5 +1,4 @@
 -- Synthetic division by x - P: what the quotient's Hasse coefficients are at P and at other points, and what it keeps.
--- Assumes nothing.
 use Prim.Native.Nat.{ℕ, zero, suc, zero-le, suc-le-suc}
 use mathlib.Core.Path.{_≡_, refl, sym, _∙_}
 use mathlib.Core.List.{List, [], _∷_}

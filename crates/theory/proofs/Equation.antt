@@ -1,5 +1,4 @@
 -- The key equation with a depth for each chunk: a row near that of a message has a solution, and in every solution Q₀ is f·Q₁.
--- Assumes nothing.
 use Prim.Native.Nat.{ℕ, suc, _+_, _-_, _^_, _<_, _≤_}
 use mathlib.Core.Path.{_≡_, ap, sym, _∙_}
 use mathlib.Core.List.{List}

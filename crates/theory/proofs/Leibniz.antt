@@ -1,5 +1,4 @@
 -- The product rule: the coefficient j of f·g is the sum over a ≤ j of those at a of f and at j - a of g.
--- Assumes nothing.
 use Prim.Native.Nat.{ℕ, zero, suc}
 use mathlib.Core.Path.{_≡_, sym, _∙_}
 use mathlib.Core.List.{List, [], _∷_}

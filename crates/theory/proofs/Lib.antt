@@ -1,5 +1,6 @@
 -- The laws of the definitions.
 pub mod Field
+pub mod Width
 pub mod Generator
 pub mod Place
 pub mod Fill

@@ -1,5 +1,4 @@
 -- A code is inside the limits exactly where these hold as plain facts.
--- Assumes nothing.
 use Prim.Native.Nat.{ℕ, _*_, _^_, _≤_}
 use mathlib.Core.Bool.{Bool, true, false, _||_}
 use mathlib.Core.Path.{_≡_, refl}
@@ -20,7 +19,7 @@ use Rattle.defs.specs.declared.Verdict.the-variants.{Fine, Refused}
 use Rattle.theory.specs.Limits.{Distinct, Numbers, Limits}
 use Rattle.theory.proofs.Place.{least-none, least-all, none-high}
 
-or-false : (a b : Bool) → a || b ≡ false → (a ≡ false) × (b ≡ false)
+pub or-false : (a b : Bool) → a || b ≡ false → (a ≡ false) × (b ≡ false)
 or-false true b e = (e, let z : _≡_ {A = ℕ} 0 1 = cc in absurd (omega arith))
 or-false false b e = (refl, e)
 

@@ -1,5 +1,4 @@
 -- The pair of the decoder: a row near that of a message f has one, and in every pair of such a row Q₀ is f·Q₁, and Q₁ is not 0.
--- Assumes nothing.
 use Prim.Native.Nat.{ℕ, suc, _+_, _*_, _-_, _/_, _<_, _≤_}
 use mathlib.Core.Path.{_≡_, refl, ap, ap₂, sym, _∙_}
 use mathlib.Core.List.{List}

@@ -1,5 +1,4 @@
 -- The laws of least, tab and total, and of lists of zeros.
--- Assumes nothing.
 use Prim.Native.Nat.{ℕ, zero, suc, _+_, _*_, _^_, _<_, _≤_, zero-le, suc-le-suc}
 use mathlib.Core.Bool.{Bool, true, false, cond}
 use mathlib.Core.Path.{_≡_, refl, ap, sym, _∙_}

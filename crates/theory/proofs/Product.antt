@@ -1,5 +1,4 @@
 -- The product of (x - P i)^(s i): its roots, its length and its top coefficient.
--- Assumes nothing.
 use Prim.Native.Nat.{ℕ, zero, suc, _+_, _^_, _<_}
 use mathlib.Core.Path.{_≡_, refl, _∙_, subst}
 use mathlib.Core.List.{List, [], _∷_}

@@ -1,5 +1,4 @@
 -- Long division from the top: where a polynomial is f·g, the remainder at turn i is the product of g with the part of f below i.
--- Assumes nothing.
 use Prim.Native.Nat.{ℕ, zero, suc, _+_, _-_, _^_, _<_}
 use mathlib.Core.Path.{_≡_, refl, ap, sym, subst, _∙_}
 use mathlib.Core.List.{List, [], _∷_}

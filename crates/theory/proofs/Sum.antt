@@ -1,13 +1,12 @@
 -- The laws of sums in the field, and of convolutions.
--- Assumes nothing.
 use Prim.Native.Nat.{ℕ, zero, suc, _-_, _<_, _≤_, suc-le-suc}
-use mathlib.Core.Path.{_≡_, refl, ap, _∙_}
+use mathlib.Core.Path.{_≡_, refl, ap, sym, _∙_}
 use native.Mathlib.Nat.{sub-zero, suc-sub-suc, zero-sub, suc-add, zero-add}
 use native.Mathlib.Omega.{arith}
 use Rattle.defs.specs.Field.{add, mul}
 use Rattle.defs.specs.Row.{sum, sumFrom}
 use Rattle.theory.specs.Key.{conv}
-use Rattle.theory.proofs.Field.{sums, ring, 0-add, mul-add-l, mul-assoc, 0-mul}
+use Rattle.theory.proofs.Field.{sums, ring, 0-add, mul-add-l, mul-assoc, 0-mul, add-0, add-assoc}
 
 pub sum-suc : (n : ℕ) (F : ℕ → ℕ) → sum (suc n) F ≡ add (F 0) (sum n (λ i. F (suc i)))
 unfolding sum
@@ -17,6 +16,11 @@ pub sum-ext : (n : ℕ) (F G : ℕ → ℕ) → ((i : ℕ) → i < n → F i ≡
 unfolding sum
 sum-ext zero F G e = refl
 sum-ext (suc n) F G e = rw (e 0 (omega arith), sum-ext n (λ i. F (suc i)) (λ i. G (suc i)) (λ i l. e (suc i) (suc-le-suc l)))
+
+pub sum-last : (n : ℕ) (F : ℕ → ℕ) → sum (suc n) F ≡ add (sum n F) (F n)
+unfolding sum
+sum-last zero F = add-0 (F 0) ∙ sym (0-add (F 0))
+sum-last (suc n) F = ap (add (F 0)) (sum-last n (λ i. F (suc i))) ∙ sym (add-assoc (F 0) _ _)
 
 pub sum-add : (n : ℕ) (F G : ℕ → ℕ) → sum n (λ i. add (F i) (G i)) ≡ add (sum n F) (sum n G)
 unfolding sum

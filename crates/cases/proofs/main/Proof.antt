@@ -1,5 +1,4 @@
 -- `main` ends, however long the input is.
--- Assumes nothing.
 use borrow.Author.Needs.{needs}
 use Rattle.cases.proofs.main.Statement.{statement}
 use Rattle.cases.proofs.main.Tie as tie

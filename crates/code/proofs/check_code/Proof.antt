@@ -1,5 +1,4 @@
 -- `check_code` meets its contract: each way out by its lemma.
--- Assumes nothing.
 use mathlib.Core.Path.{_≡_, sym, _∙_}
 use lib.ListN.{length}
 use Rattle.defs.specs.Limits.{numbersVerdict}

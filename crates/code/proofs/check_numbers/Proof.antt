@@ -1,5 +1,4 @@
 -- `check_numbers` meets its contract: each way out by its lemma.
--- Assumes nothing.
 use native.Mathlib.Omega.{arith}
 use Rattle.code.proofs.Numbers.{found-width, product-small, not-width, no-depth, too-deep, no-points, too-many, too-long, no-dimension, too-large, numbers-fine}
 use borrow.Author.Needs.{needs}

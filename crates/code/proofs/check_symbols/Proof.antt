@@ -1,5 +1,4 @@
 -- `check_symbols` meets its contract: a symbol outside the field is found before the end, or none is.
--- Assumes nothing.
 use Rattle.code.proofs.Outcome.{symbol-high, symbols-fine}
 use borrow.Author.Needs.{needs}
 use Rattle.code.proofs.check_symbols.Statement.{statement}

@@ -1,8 +1,7 @@
 -- `field_size` meets its contract: what is neither 2 nor 4 is 8.
--- Assumes nothing.
 use Prim.Native.Nat.{ℕ, _^_}
 use mathlib.Core.Path.{sym, ap}
-use Rattle.code.proofs.Numbers.{width-8}
+use Rattle.theory.proofs.Width.{width-8}
 use Rattle.code.proofs.field_size.Statement.{statement}
 use Rattle.code.proofs.field_size.Tie as tie
 

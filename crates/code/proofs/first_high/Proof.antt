@@ -1,5 +1,4 @@
 -- `first_high` meets its contract: no symbol before i is outside the field.
--- Assumes nothing.
 use Prim.Native.Nat.{ℕ, _-_, _<_, _≤_}
 use mathlib.Core.Bool.{false}
 use mathlib.Core.Path.{_≡_, _∙_}

@@ -1,5 +1,4 @@
 -- `first_twice` meets its contract: no symbol before i equals an earlier one, and seen marks those passed.
--- Assumes nothing.
 use Prim.Native.Nat.{ℕ, _-_, _<_, _≤_}
 use mathlib.Core.Bool.{false}
 use mathlib.Core.Path.{_≡_}

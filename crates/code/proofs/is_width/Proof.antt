@@ -1,5 +1,4 @@
 -- `is_width` meets its contract: the tests in their order.
--- Assumes nothing.
 use borrow.Author.Tests.{eq-eqb, ne-eqb}
 use Rattle.code.proofs.is_width.Statement.{statement}
 use Rattle.code.proofs.is_width.Tie as tie

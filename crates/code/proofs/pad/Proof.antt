@@ -1,5 +1,4 @@
 -- `pad` meets its contract: the first i points stand in an array of zeros.
--- Assumes nothing.
 use Prim.Native.Nat.{ℕ, _-_, _≤_}
 use mathlib.Core.Path.{_≡_, ap, _∙_}
 use native.Mathlib.Omega.{arith}

@@ -1,5 +1,4 @@
 -- `refused` meets its contract: it is what the definition says.
--- Assumes nothing.
 use mathlib.Core.Path.{refl}
 use Rattle.code.specs.Checked.{zeros, codeFor, refusedWith}
 use Rattle.code.proofs.refused.Statement.{statement}

@@ -1,5 +1,6 @@
 -- `field::exp` meets its contract: each width has its table.
-use Rattle.field.proofs.Elements.{power-in, width-8}
+use Rattle.theory.proofs.Width.{width-8}
+use Rattle.field.proofs.Elements.{power-in}
 use borrow.Author.Needs.{needs}
 use Rattle.field.proofs.exp.Statement.{statement}
 use Rattle.field.proofs.exp.Tie as tie

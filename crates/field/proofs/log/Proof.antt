@@ -1,5 +1,6 @@
 -- `field::log` meets its contract: each width has its table.
-use Rattle.field.proofs.Elements.{logarithm-in, width-8}
+use Rattle.theory.proofs.Width.{width-8}
+use Rattle.field.proofs.Elements.{logarithm-in}
 use borrow.Author.Needs.{needs}
 use Rattle.field.proofs.log.Statement.{statement}
 use Rattle.field.proofs.log.Tie as tie

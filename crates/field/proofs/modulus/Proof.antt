@@ -1,6 +1,6 @@
 -- `field::modulus` meets its contract: each width has its modulus.
 use Rattle.defs.specs.Field as D
-use Rattle.field.proofs.Elements.{width-8}
+use Rattle.theory.proofs.Width.{width-8}
 use Rattle.field.proofs.modulus.Statement.{statement}
 use Rattle.field.proofs.modulus.Tie as tie
 

@@ -1,7 +1,7 @@
 -- `field::times2` meets its contract: a shift, and the modulus where that sets bit m.
 use native.Mathlib.Omega.{arith}
 use Rattle.defs.specs.Field as D
-use Rattle.field.proofs.Doubling.{size-le}
+use Rattle.theory.proofs.Width.{field-top}
 use Rattle.field.proofs.Twice.{twice-low, twice-high}
 use borrow.Author.Needs.{needs}
 use Rattle.field.proofs.times2.Statement.{statement}
@@ -14,7 +14,7 @@ size-requires : tie.Need-size-requires
 size-requires c κs = search needs
 
 cast-result : tie.Need-cast-result
-cast-result c = omega (arith, size-le _ (c .before .before .pre .0))
+cast-result c = omega (arith, field-top _ (c .before .before .pre .0))
 
 returns : tie.Need-returns
 returns c = twice-low _ _ (rw (c .before .size .ensures) at (c .if1 .taken))
@@ -28,7 +28,7 @@ cast-result-2 c =
     let s = c .before .before .before in
     let l = c .before .if1 .left in
     let e = twice-high _ _ (s .pre .0) (s .pre .1) (c .before .before .size .ensures) l (c .modulus .ensures) in
-    omega (arith, e .small, size-le _ (s .pre .0))
+    omega (arith, e .small, field-top _ (s .pre .0))
 
 returns-2 : tie.Need-returns-2
 unfolding D.add

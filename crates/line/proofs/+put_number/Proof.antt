@@ -1,5 +1,4 @@
 -- `put_number` writes the decimal digits; the measure is the number, of which a tenth is left at each call of itself.
--- Assumes nothing.
 use native.Mathlib.Omega.{arith}
 use borrow.Author.Needs.{needs}
 use Prim.Native.Nat.{ℕ, _<_, _≤_}

@@ -1,5 +1,4 @@
 -- `hand_out` refuses a buffer that is too short and fills any other.
--- Assumes nothing.
 use Rattle.line.proofs.Handing.{no-room, handed}
 use borrow.Author.Needs.{needs}
 use Rattle.line.proofs.hand_out.Statement.{statement}

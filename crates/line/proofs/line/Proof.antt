@@ -1,5 +1,4 @@
 -- `line` meets its contract: the text is the line of the bytes, and it is handed out.
--- Assumes nothing.
 use lib.Seq.{length-take-le}
 use mathlib.Core.Path.{sym}
 use borrow.Author.Needs.{needs}

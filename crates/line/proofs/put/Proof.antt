@@ -1,5 +1,4 @@
 -- `put` writes one byte behind the text.
--- Assumes nothing.
 use borrow.Author.Needs.{needs}
 use Rattle.line.proofs.put.Statement.{statement}
 use Rattle.line.proofs.put.Tie as tie

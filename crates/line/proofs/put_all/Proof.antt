@@ -1,5 +1,4 @@
 -- `put_all` writes each number behind a space; after i turns the first i are written.
--- Assumes nothing.
 use Prim.Native.Nat.{_-_, _≤_}
 use native.Mathlib.Omega.{arith}
 use lib.ListN.{length, take}

@@ -1,5 +1,4 @@
 -- `put_done` writes the line of a message that was found.
--- Assumes nothing.
 use Rattle.line.proofs.Pieces.{wrote-done}
 use Rattle.line.proofs.Lengths.{length-done}
 use native.Mathlib.Omega.{arith}

@@ -1,5 +1,4 @@
 -- `put_heading` writes number and detail.
--- Assumes nothing.
 use Rattle.line.proofs.Pieces.{heading-room, wrote-heading}
 use native.Mathlib.Omega.{arith}
 use borrow.Author.Needs.{needs}

@@ -1,5 +1,4 @@
 -- `put_line` writes the line of what the reader answers.
--- Assumes nothing.
 use Rattle.line.proofs.Reading.{refused-room, refused-text, taken, taken-text}
 use native.Mathlib.Omega.{arith}
 use borrow.Author.Needs.{needs}

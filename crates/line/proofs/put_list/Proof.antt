@@ -1,5 +1,4 @@
 -- `put_list` writes a bar and a list of numbers.
--- Assumes nothing.
 use Rattle.line.proofs.Pieces.{wrote-list}
 use Rattle.line.proofs.Lengths.{length-listed}
 use native.Mathlib.Omega.{arith}

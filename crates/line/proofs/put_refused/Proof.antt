@@ -1,5 +1,4 @@
 -- `put_refused` writes the line of a refusal.
--- Assumes nothing.
 use Rattle.line.proofs.Pieces.{wrote-refused}
 use Rattle.line.proofs.Lengths.{length-refused}
 use native.Mathlib.Omega.{arith}

@@ -1,5 +1,4 @@
 -- `put_row` writes the line of what the decoder answers.
--- Assumes nothing.
 use Rattle.line.proofs.Lines.{done-ready, refused-ready, row-text}
 use native.Mathlib.Omega.{arith}
 use borrow.Author.Needs.{needs}

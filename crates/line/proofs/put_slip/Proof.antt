@@ -1,5 +1,4 @@
 -- `put_slip` lends the decoder the points, the row and the room that a slip asks for.
--- Assumes nothing.
 use lib.Seq.{length-take-le}
 use native.Mathlib.Omega.{arith}
 use mathlib.Core.Path.{sym}

@@ -1,5 +1,4 @@
 -- `put_spaced` writes a number behind a space.
--- Assumes nothing.
 use borrow.Author.Needs.{needs}
 use Rattle.line.proofs.Pieces.{wrote-then}
 use Rattle.line.proofs.put_spaced.Statement.{statement}

@@ -1,5 +1,4 @@
 -- `pair::add_multiple` meets its contract.
--- Assumes nothing.
 use Prim.Native.Nat.{_≤_, _-_}
 use native.Mathlib.Omega.{arith}
 use Rattle.pair.specs.Fill.{Added}

@@ -1,5 +1,4 @@
 -- `pair::add_products` meets its contract.
--- Assumes nothing.
 use Prim.Native.Nat.{_+_, _≤_, _-_}
 use mathlib.Core.Path.{ap, ap₂}
 use native.Mathlib.Omega.{arith}

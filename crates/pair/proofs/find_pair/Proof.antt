@@ -1,5 +1,4 @@
 -- `pair::find_pair` meets its contract.
--- Assumes nothing.
 use Prim.Native.Nat.{ℕ, _+_, _/_, _<_}
 use mathlib.Core.Path.{refl}
 use native.Mathlib.Nat.{lt-of-lt-of-le}

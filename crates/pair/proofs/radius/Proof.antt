@@ -1,5 +1,4 @@
 -- `pair::radius` meets its contract.
--- Assumes nothing.
 use mathlib.Core.Path.{refl}
 use Rattle.defs.specs.Distance.{radius}
 use borrow.Author.Needs.{needs}

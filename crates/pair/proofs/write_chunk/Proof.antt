@@ -1,5 +1,4 @@
 -- `pair::write_chunk` meets its contract.
--- Assumes nothing.
 use Prim.Native.Nat.{ℕ, _≤_, _-_}
 use mathlib.Core.List.{List}
 use native.Mathlib.Omega.{arith}

@@ -1,5 +1,4 @@
 -- `pair::write_depths` meets its contract.
--- Assumes nothing.
 use Prim.Native.Nat.{_≤_, _-_, ℕ}
 use mathlib.Core.List.{List}
 use native.Mathlib.Omega.{arith}

@@ -1,5 +1,4 @@
 -- `pair::write_powers` meets its contract.
--- Assumes nothing.
 use Prim.Native.Nat.{_≤_, _<_, _-_}
 use mathlib.Core.Path.{_≡_, ap, sym, _∙_}
 use native.Mathlib.Omega.{arith}

@@ -1,5 +1,4 @@
 -- `pack` packs the number and the detail: nothing runs over, since both are small.
--- Assumes nothing.
 use borrow.Author.Needs.{needs}
 use native.Mathlib.Omega.{arith}
 use Rattle.plq.proofs.Small.{number-small}

@@ -1,5 +1,4 @@
 -- `pack_read` packs the reader's answer: each part has a byte.
--- Assumes nothing.
 use native.Mathlib.Omega.{arith}
 use borrow.Author.Needs.{needs}
 use Rattle.plq.proofs.Small.{number-small}

@@ -1,5 +1,4 @@
 -- `plq_decode`: what decode answers is small enough to be packed.
--- Assumes nothing.
 use borrow.Author.Needs.{needs}
 use Rattle.plq.proofs.Small.{decoded-small}
 use Rattle.plq.proofs.plq_decode.Statement.{statement}

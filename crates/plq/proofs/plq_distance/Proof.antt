@@ -1,5 +1,4 @@
 -- `plq_distance`: a distance is small enough to be packed.
--- Assumes nothing.
 use borrow.Author.Needs.{needs}
 use mathlib.Core.Path.{ap, _∙_}
 use Rattle.plq.specs.Packed.{packed}

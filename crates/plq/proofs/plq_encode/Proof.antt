@@ -1,5 +1,4 @@
 -- `plq_encode`: what encode answers is small enough to be packed.
--- Assumes nothing.
 use borrow.Author.Needs.{needs}
 use Rattle.plq.proofs.Small.{encoded-small}
 use Rattle.plq.proofs.plq_encode.Statement.{statement}

@@ -1,5 +1,4 @@
 -- `plq_line`: what line answers is small enough to be packed.
--- Assumes nothing.
 use borrow.Author.Needs.{needs}
 use Rattle.plq.proofs.Small.{lined-small}
 use Rattle.plq.proofs.plq_line.Statement.{statement}

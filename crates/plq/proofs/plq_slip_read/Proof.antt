@@ -1,5 +1,4 @@
 -- `plq_slip_read`: each part of the slip reader's answer has room in a byte.
--- Assumes nothing.
 use borrow.Author.Needs.{needs}
 use Rattle.plq.proofs.Small.{read-narrow}
 use Rattle.plq.proofs.plq_slip_read.Statement.{statement}

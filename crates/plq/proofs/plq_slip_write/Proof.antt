@@ -1,5 +1,4 @@
 -- `plq_slip_write`: what the slip writer answers is small enough to be packed.
--- Assumes nothing.
 use borrow.Author.Needs.{needs}
 use Rattle.plq.proofs.Small.{written-small}
 use Rattle.plq.proofs.plq_slip_write.Statement.{statement}

@@ -1,5 +1,4 @@
 -- `print_line` writes no more than the buffer holds.
--- Assumes nothing.
 use lib.Seq.{length-take-le}
 use mathlib.Core.Path.{sym}
 use Rattle.line.proofs.Within.{done-within}

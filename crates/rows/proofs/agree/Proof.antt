@@ -1,5 +1,4 @@
 -- `agree` meets its contract: s is the depth to which the first j symbols agree.
--- Assumes nothing.
 use Prim.Native.Nat.{ℕ, _+_, _-_, _≤_}
 use mathlib.Core.Path.{_≡_, ap, sym, _∙_}
 use mathlib.Core.Logic.{⊎-elim}

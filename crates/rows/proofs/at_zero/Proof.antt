@@ -1,5 +1,4 @@
 -- `at_zero` meets its contract: a message that ends within the chunk leaves zeros behind it.
--- Assumes nothing.
 use Prim.Native.Nat.{ℕ}
 use mathlib.Core.Path.{ap, _∙_}
 use native.Mathlib.Nat.{zero-add}

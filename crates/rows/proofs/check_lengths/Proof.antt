@@ -1,5 +1,4 @@
 -- `check_lengths` meets its contract: each way out by its lemma.
--- Assumes nothing.
 use Rattle.rows.proofs.Outcome.{no-depth, too-deep, not-same, empty, too-long, not-whole, lengths-fine}
 use borrow.Author.Needs.{needs}
 use Rattle.rows.proofs.check_lengths.Statement.{statement}

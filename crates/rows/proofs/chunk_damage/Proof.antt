@@ -1,5 +1,4 @@
 -- `chunk_damage` meets its contract: the two chunks are taken out and compared.
--- Assumes nothing.
 use native.Mathlib.Omega.{arith}
 use lib.ListN.{getD}
 use Rattle.theory.proofs.Agree.{agree-le}

@@ -1,5 +1,4 @@
 -- `chunk_of` meets its contract: the first j symbols are copied.
--- Assumes nothing.
 use Prim.Native.Nat.{_+_, _-_, _≤_}
 use mathlib.Core.Path.{_≡_, refl}
 use native.Mathlib.Omega.{arith}

@@ -1,5 +1,4 @@
 -- `coefficient` meets its contract: the terms below the power i are added.
--- Assumes nothing.
 use Prim.Native.Nat.{_+_, _-_, _%_, _/_}
 use native.Mathlib.Omega.{arith}
 use lib.Pow.{pow-pos}

@@ -1,5 +1,4 @@
 -- `encode` meets its contract: each way out by its lemma.
--- Assumes nothing.
 use mathlib.Core.Path.{sym, _∙_}
 use native.Mathlib.Omega.{arith}
 use Rattle.defs.specs.Limits.{Inside}

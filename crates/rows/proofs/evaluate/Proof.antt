@@ -1,5 +1,4 @@
 -- `evaluate` meets its contract: the first j coefficients are written.
--- Assumes nothing.
 use Prim.Native.Nat.{_-_, _≤_}
 use mathlib.Core.Path.{_≡_, _∙_}
 use native.Mathlib.Omega.{arith}

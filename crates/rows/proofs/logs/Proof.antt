@@ -1,6 +1,5 @@
 use Rattle.theory.proofs.Generator.{one-lt}
 -- `logs` meets its contract: the powers below i have their logarithms.
--- Assumes nothing.
 use Prim.Native.Nat.{_-_, _<_}
 use native.Mathlib.Omega.{arith}
 use lib.ListN.{getD}

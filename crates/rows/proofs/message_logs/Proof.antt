@@ -1,5 +1,4 @@
 -- `message_logs` meets its contract: the logarithms of the first i symbols are written.
--- Assumes nothing.
 use Prim.Native.Nat.{_-_}
 use mathlib.Core.Path.{refl}
 use native.Mathlib.Omega.{arith}

@@ -1,6 +1,5 @@
 use Rattle.theory.proofs.Generator.{one-lt}
 -- `powers` meets its contract: the powers below i are written, and x is the next.
--- Assumes nothing.
 use Prim.Native.Nat.{_-_}
 use native.Mathlib.Omega.{arith}
 use Rattle.rows.proofs.Lookup.{Powered, order-top, powers-first, powers-more, powers-last}

@@ -1,5 +1,4 @@
 -- `row_distance` meets its contract: the damage of the first i chunks is added up.
--- Assumes nothing.
 use Prim.Native.Nat.{ℕ, _*_, _-_, _≤_}
 use mathlib.Core.Path.{_≡_, ap, _∙_}
 use native.Mathlib.Omega.{arith}

@@ -1,5 +1,4 @@
 -- `write_row` meets its contract: the chunks of the first i points are written.
--- Assumes nothing.
 use Prim.Native.Nat.{_-_}
 use native.Mathlib.Omega.{arith}
 use lib.ListN.{take}

@@ -1,5 +1,4 @@
 -- `check_head` meets its contract: each way out by its lemma.
--- Assumes nothing.
 use mathlib.Core.Path.{_≡_, sym, _∙_}
 use native.Mathlib.Omega.{arith}
 use borrow.Author.Needs.{needs}
@@ -7,7 +6,7 @@ use Rattle.defs.specs.Limits.{numbersVerdict}
 use Rattle.defs.specs.declared.Verdict.the-variants.{Fine}
 use Rattle.theory.specs.Limits.{Numbers}
 use Rattle.theory.proofs.Limits.{numbers-known, count-small}
-use Rattle.slip.proofs.Width.{width-top}
+use Rattle.theory.proofs.Width.{width-top}
 use Rattle.slip.proofs.Reader.{head-short, head-edition, head-numbers, head-small, head-large, head-fine}
 use Rattle.slip.proofs.check_head.Statement.{statement}
 use Rattle.slip.proofs.check_head.Tie as tie

@@ -1,12 +1,11 @@
 -- `check_write` meets its contract: each way out by its lemma.
--- Assumes nothing.
 use mathlib.Core.Path.{sym, _∙_}
 use native.Mathlib.Omega.{arith}
 use borrow.Author.Needs.{needs}
 use Rattle.defs.specs.Limits.{Inside}
 use Rattle.theory.proofs.Limits.{inside-known}
 use Rattle.code.proofs.Outcome.{verdict-is}
-use Rattle.slip.proofs.Width.{width-top}
+use Rattle.theory.proofs.Width.{width-top}
 use Rattle.slip.proofs.Writer.{inside-width, refused-code, refused-row, refused-size, by-symbols, few}
 use Rattle.slip.proofs.check_write.Statement.{statement}
 use Rattle.slip.proofs.check_write.Tie as tie

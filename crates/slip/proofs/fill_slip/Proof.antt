@@ -1,5 +1,4 @@
 -- `fill_slip` meets its contract: the first i places are filled.
--- Assumes nothing.
 use Prim.Native.Nat.{ℕ, _*_, _-_, _≤_}
 use mathlib.Core.Path.{_≡_, refl, ap, _∙_}
 use native.Mathlib.Omega.{arith}

@@ -1,5 +1,4 @@
 -- `head_of` meets its contract: each field out of the number of three bytes.
--- Assumes nothing.
 use native.Mathlib.Omega.{arith}
 use borrow.Author.Needs.{needs}
 use Rattle.slip.proofs.HeaderBits.{heads, head-number}

@@ -1,5 +1,4 @@
 -- `header` meets its contract: the fields one behind another.
--- Assumes nothing.
 use borrow.Author.Needs.{needs}
 use Rattle.slip.proofs.header.Statement.{statement}
 use Rattle.slip.proofs.HeaderBits.{header-number}

@@ -1,5 +1,4 @@
 -- `pack` meets its contract: byte is the number of the bits of the symbols that were taken.
--- Assumes nothing.
 use Prim.Native.Nat.{_*_, _-_, _/_, _^_, _≤_}
 use mathlib.Core.Path.{_≡_}
 use mathlib.Core.List.{_++_}
@@ -7,7 +6,7 @@ use native.Mathlib.Nat.{div-le-self, mul-le-mul}
 use native.Mathlib.Omega.{arith}
 use borrow.Author.Needs.{needs}
 use Rattle.defs.specs.Slip.{allBits, numberAt}
-use Rattle.slip.proofs.Width.{width-pos, field-top}
+use Rattle.theory.proofs.Width.{width-pos, field-top}
 use Rattle.slip.proofs.Packed.{pack-first, pack-turn, pack-last, pack-small}
 use Rattle.slip.proofs.pack.Statement.{statement}
 use Rattle.slip.proofs.pack.Tie as tie

@@ -1,11 +1,10 @@
 -- `read_symbol` meets its contract: what is behind the symbol in its byte is divided away, what is before it is cut off.
--- Assumes nothing.
 use Prim.Native.Nat.{_*_, _<_, _≤_}
 use native.Mathlib.Nat.{mul-le-mul, mod-lt, lt-of-lt-of-le}
 use native.Mathlib.Omega.{arith}
 use lib.Pow.{pow-pos}
 use borrow.Author.Needs.{needs}
-use Rattle.slip.proofs.Width.{width-pos, width-top, field-top}
+use Rattle.theory.proofs.Width.{width-pos, width-top, field-top}
 use Rattle.slip.proofs.Packed.{inside-byte, symbol-in-byte}
 use Rattle.slip.proofs.read_symbol.Statement.{statement}
 use Rattle.slip.proofs.read_symbol.Tie as tie

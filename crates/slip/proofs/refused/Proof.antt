@@ -1,5 +1,4 @@
 -- `refused` meets its contract: it is what the definition says.
--- Assumes nothing.
 use mathlib.Core.Path.{refl}
 use Rattle.defs.specs.Read.{reading}
 use Rattle.slip.proofs.refused.Statement.{statement}

@@ -1,5 +1,4 @@
 -- `slip_byte` meets its contract: three bytes of the header, then the packed ones.
--- Assumes nothing.
 use mathlib.Core.Path.{_∙_}
 use native.Mathlib.Omega.{arith}
 use borrow.Author.Needs.{needs}

@@ -1,5 +1,4 @@
 -- `slip_read` meets its contract: each way out by its lemma.
--- Assumes nothing.
 use mathlib.Core.Path.{_≡_, sym, _∙_}
 use native.Mathlib.Omega.{arith}
 use borrow.Author.Needs.{needs}

@@ -1,5 +1,4 @@
 -- `slip_size` meets its contract: no step of it wraps.
--- Assumes nothing.
 use native.Mathlib.Nat.{mul-le-mul}
 use native.Mathlib.Omega.{arith}
 use borrow.Author.Needs.{needs}

@@ -1,5 +1,4 @@
 -- `slip_write` meets its contract: each way out by its lemma.
--- Assumes nothing.
 use Prim.Native.Nat.{_+_}
 use mathlib.Core.Path.{_≡_, sym, _∙_}
 use native.Mathlib.Omega.{arith}
@@ -7,7 +6,7 @@ use lib.ListN.{length}
 use borrow.Author.Needs.{needs}
 use Rattle.defs.specs.Write.{writeVerdict}
 use Rattle.defs.specs.declared.Verdict.the-variants.{Fine}
-use Rattle.slip.proofs.Width.{width-top}
+use Rattle.theory.proofs.Width.{width-top}
 use Rattle.slip.proofs.Writer.{inside-width, Writable, writable, few, size-top, written-refused, written-done}
 use Rattle.slip.proofs.slip_write.Statement.{statement}
 use Rattle.slip.proofs.slip_write.Tie as tie

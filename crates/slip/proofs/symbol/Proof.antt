@@ -1,5 +1,4 @@
 -- `symbol` meets its contract: the points, then the row, then 0.
--- Assumes nothing.
 use mathlib.Core.Path.{sym, _∙_}
 use lib.ListN.{List·getD-append, List·getD-eq-default}
 use borrow.Author.Needs.{needs}

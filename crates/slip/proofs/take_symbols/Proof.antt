@@ -1,5 +1,4 @@
 -- `take_symbols` meets its contract: the first i places are filled.
--- Assumes nothing.
 use Prim.Native.Nat.{ℕ, suc, _+_, _*_, _-_, _≤_}
 use mathlib.Core.Path.{_≡_, refl, ap, _∙_}
 use native.Mathlib.Nat.{mul-suc, mul-le-mul-left}

@@ -1,5 +1,4 @@
 -- `twice_in` meets its contract: the points stand at the front of the array that is searched.
--- Assumes nothing.
 use mathlib.Core.Path.{sym, _∙_}
 use native.Mathlib.Omega.{arith}
 use lib.Seq.{length-take-le}

@@ -1,5 +1,4 @@
 -- `print_all` stays within its frames and ends.
--- Assumes nothing.
 use Prim.Native.Nat.{_-_, _≤_}
 use lib.ListN.{length}
 use borrow.Author.Needs.{needs}

@@ -1,5 +1,4 @@
 -- `slice` stays within its room, and what it answers counts bytes there.
--- Assumes nothing.
 use mathlib.Core.Path.{sym}
 use native.Mathlib.Omega.{arith}
 use lib.Seq.{length-take-le}

@@ -1,5 +1,4 @@
 -- `buffer` stays within its slice and ends.
--- Assumes nothing.
 use Prim.Native.Nat.{_-_, _≤_}
 use lib.ListN.{length}
 use borrow.Author.Needs.{needs}

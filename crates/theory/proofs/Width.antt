@@ -1,7 +1,6 @@
 -- The three widths: what is shown of each is shown of all.
--- Assumes nothing.
 use Prim.Native.Nat.{ℕ, _^_, _<_, _≤_}
-use mathlib.Core.Path.{subst⁻¹}
+use mathlib.Core.Path.{_≡_, subst⁻¹}
 use mathlib.Core.Logic.{inl, inr}
 use lib.Dec.{lit≤, lit<}
 use lib.Pow.{pow-mono}
@@ -20,3 +19,8 @@ width-top = by-width (λ m. m ≤ 8) (lit≤ tt) (lit≤ tt) (lit≤ tt)
 
 pub field-top : (m : ℕ) → Width m → 2 ^ m ≤ 256
 field-top m w = pow-mono {j = 8} (width-top m w)
+
+pub width-8 : (m : ℕ) → Width m → (m ≡ 2 → ⊥) → (m ≡ 4 → ⊥) → m ≡ 8
+width-8 m (inl e) n₂ n₄ = absurd (n₂ e)
+width-8 m (inr (inl e)) n₂ n₄ = absurd (n₄ e)
+width-8 m (inr (inr e)) n₂ n₄ = e
