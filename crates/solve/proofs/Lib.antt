@@ -5,3 +5,4 @@ pub mod Columns
 pub mod Free
 pub mod Unknowns
 pub mod Writes
+pub mod Sixteens

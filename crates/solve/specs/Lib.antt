@@ -3,3 +3,4 @@ pub mod Table
 pub mod System
 pub mod Answer
 pub mod Step
+pub mod Multiples

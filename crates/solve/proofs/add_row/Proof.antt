@@ -1,16 +1,16 @@
 -- `solve::add_row` meets its contract.
-use Prim.Native.Nat.{_+_, _*_, _-_, _≤_}
+use Prim.Native.Nat.{ℕ, _+_, _*_, _-_, _≤_}
 use native.Mathlib.Omega.{arith}
 use borrow.Author.Needs.{needs}
 use Rattle.defs.specs.Field.{add}
 use Rattle.solve.specs.Table.{stride}
-use Rattle.solve.proofs.Writes.{byte, Wrote, wrote-none, wrote-more, wrote-added}
+use Rattle.solve.proofs.Writes.{byte, Adds, wrote-none, adds-more, looked-up, wrote-added}
 use Rattle.solve.proofs.add_row.Statement.{statement}
 use Rattle.solve.proofs.add_row.Tie as tie
 
 abbrev Inv-loop : tie.InvT-loop
 Inv-loop t₀ m cols c r p f row base from j₀ t j =
-    (c ≤ j) × (j ≤ cols) × Wrote m f (λ i. r * stride + i) (λ i. p * stride + i) t₀ c j t
+    (c ≤ j) × (j ≤ cols) × Adds m f (λ i. r * stride + i) (λ i. p * stride + i) t₀ c j t
 
 abbrev μ-loop : tie.MeasureT-loop
 μ-loop t₀ m cols c r p f row base from j₀ t j = cols - j
@@ -25,7 +25,7 @@ mul-from : tie.Need-mul-from Inv-loop μ-loop
 mul-from c = search needs
 
 loop-holds : tie.Need-loop-holds Inv-loop μ-loop
-loop-holds c = (search needs, search needs, wrote-none _ _ _ _ (c .before .pre .0))
+loop-holds c = (search needs, search needs, wrote-none _ _ _ _ (c .before .pre .0 .size) (c .before .pre .0 .symbols))
 
 add-k : tie.Need-add-k Inv-loop μ-loop
 add-k c = search needs
@@ -41,13 +41,14 @@ element-copy-out-t c = search needs
 
 cast-t : tie.Need-cast-t Inv-loop μ-loop
 cast-t c =
-    let W = c .before .before .before .loop .inv .2 in
-    omega (arith, byte (W .shape .width) (W .shape .symbols (c .before .before .before .before .before .args .p * stride + c .before .before .before .loop .j)))
+    let al = c .before .before .before in
+    let st = al .before .before in
+    omega (arith, byte (st .pre .0 .width) (al .loop .inv .2 .symbols (st .args .p * stride + al .loop .j)))
 
 array-read-t : tie.Need-array-read-t Inv-loop μ-loop
 array-read-t c =
-    let W = c .before .before .before .loop .inv .2 in
-    byte (W .shape .width) (W .shape .symbols _)
+    let al = c .before .before .before in
+    byte (al .before .before .pre .0 .width) (al .loop .inv .2 .symbols _)
 
 element-write-t : tie.Need-element-write-t Inv-loop μ-loop
 element-write-t c = search needs
@@ -62,18 +63,20 @@ loop-again : tie.Need-loop-again Inv-loop μ-loop
 unfolding add
 loop-again c =
     let al = c .before .before .before in
-    let st = al .before .before in (
+    let st = al .before .before in
+    let to : ℕ → ℕ = λ i. st .args .r * stride + i in
+    let from : ℕ → ℕ = λ i. st .args .p * stride + i in (
       omega arith,
       omega arith,
-      wrote-more _ _ (λ i. st .args .r * stride + i) (λ i. st .args .p * stride + i) (al .before .product-row .ensures) (al .loop .inv .2) (al .loop .inv .0)
-          (omega arith) (λ j l e. omega arith) (λ j l e. omega arith),
+      adds-more _ _ to from (al .loop .inv .2) (al .loop .inv .0) (omega arith) (λ j l e. omega arith)
+          (looked-up _ _ to from (al .before .product-row .ensures) (al .loop .inv .2) (λ j l e. omega arith)),
     )
 
 returns : tie.Need-returns Inv-loop μ-loop
 returns c =
     let v = c .before .loop .inv in
     let st = c .before .before .before in
-    (v .2 .shape, wrote-added (st .args .r) (st .args .p) (v .2) (v .1) (c .loop-test .left) (st .pre .1 .0 .4) (st .pre .1 .1))
+    (record { width = st .pre .0 .width; size = v .2 .size; symbols = v .2 .symbols }, wrote-added (st .args .r) (st .args .p) (v .2) (v .1) (c .loop-test .left) (st .pre .1 .0 .4) (st .pre .1 .1))
 
 pub add-row-spec : {M : Type 1} → statement M
 add-row-spec =
