@@ -94,7 +94,7 @@ returns-2 c =
     let s = c .before .before .before .before .before .before .before .before .before .before .before .before .before .before .before in
     let p = pair-found _ (s .pre .0) (s .args .row .now) (s .pre .1 .size) _ (c .before .before .before .before .before .before .before .before .before .before .enum-told2 .given .1) (c .before .before .before .before .before .before .before .before .before .before .before .before .find-pair .ensures) _ _ refl (c .before .before .before .before .before .before .before .before .before .before .before .before .before .radius .ensures) in
     too-far _ (s .pre .0) (s .args .row .now) (s .pre .1 .size) _ _ p _ (c .before .before .before .before .before .quotient .ensures) _ (c .before .before .before .before .row-of .ensures) _ (c .before .before .row-distance .ensures) _ (c .before .before .before .before .before .before .before .before .before .before .before .before .before .radius .ensures)
-    (c .before .if1 .taken) _ (c .nothing2 .ensures)
+    (omega (arith, c .before .if1 .taken, radius-short _ (s .pre .0) (s .args .row .now) (s .pre .1 .size) _ (c .before .before .before .before .before .before .before .before .before .before .before .before .before .radius .ensures))) _ (c .nothing2 .ensures)
 
 returns-3 : tie.Need-returns-3
 returns-3 c =
