@@ -1,111 +1,82 @@
-// Runs each case on standard input through its call and prints a line for it. Cases and lines were made by the second program;
-// those worked by hand come first.
+// Runs each case on standard input through its call and prints a line for it: what the call answered, and what its buffers hold
+// afterwards. Cases and lines were made by the second program; those worked by hand come first.
 mod calls;
 mod frame;
 mod show;
 
+use frame::DECODE;
+use frame::DISTANCE;
+use frame::ENCODE;
+use frame::LINE;
 use frame::ROOM;
+use frame::SLIP_READ;
+use frame::SLIP_WRITE;
 
 // More cases than any input has.
 const MOST: usize = 100000;
 
-fn encode() {
-    let mut points = [0u8; ROOM];
-    let mut message = [0u8; ROOM];
-    let mut row = [0u8; ROOM];
-    let m = frame::number();
-    let r = frame::number();
-    let k = frame::number();
-    let p = frame::slice(&mut points);
-    let s = frame::slice(&mut message);
-    let n = frame::slice(&mut row);
-    calls::encode(m, r, k, &points[..p], &message[..s], &mut row[..n]);
+// Whether the call takes a code.
+fn coded(call: u8) -> bool {
+    call == ENCODE || call == DECODE || call == SLIP_WRITE
 }
 
-fn decode() {
-    let mut points = [0u8; ROOM];
-    let mut row = [0u8; ROOM];
-    let mut message = [0u8; ROOM];
-    let mut depths = [0u8; ROOM];
-    let m = frame::number();
-    let r = frame::number();
-    let k = frame::number();
-    let p = frame::slice(&mut points);
-    let n = frame::slice(&mut row);
-    let s = frame::slice(&mut message);
-    let d = frame::slice(&mut depths);
-    calls::decode(
+// Each arm returns: no fact about the buffers has to be carried past the match.
+fn make(
+    call: u8,
+    m: usize,
+    r: usize,
+    k: usize,
+    first: &[u8],
+    second: &[u8],
+    buffer: &mut [u8],
+    other: &mut [u8],
+) {
+    match call {
+        ENCODE => return calls::encode(m, r, k, first, second, buffer),
+        DECODE => return calls::decode(m, r, k, first, second, buffer, other),
+        DISTANCE => return calls::distance(r, first, second),
+        SLIP_WRITE => return calls::slip_write(m, r, k, first, second, buffer),
+        SLIP_READ => return calls::slip_read(first, buffer, other),
+        _ => return calls::line(first, buffer),
+    }
+}
+
+// Reads what the call takes, makes it and ends its line.
+fn run(call: u8) {
+    let mut first = [0u8; ROOM];
+    let mut second = [0u8; ROOM];
+    let mut buffer = [0u8; ROOM];
+    let mut other = [0u8; ROOM];
+    let two_inputs = coded(call) || call == DISTANCE;
+    let m = frame::number(coded(call));
+    let r = frame::number(two_inputs);
+    let k = frame::number(coded(call));
+    let a = frame::slice(true, &mut first);
+    let b = frame::slice(two_inputs, &mut second);
+    let c = frame::slice(call != DISTANCE, &mut buffer);
+    let d = frame::slice(call == DECODE || call == SLIP_READ, &mut other);
+    make(
+        call,
         m,
         r,
         k,
-        &points[..p],
-        &row[..n],
-        &mut message[..s],
-        &mut depths[..d],
+        &first[..a],
+        &second[..b],
+        &mut buffer[..c],
+        &mut other[..d],
     );
-}
-
-fn distance() {
-    let mut a = [0u8; ROOM];
-    let mut b = [0u8; ROOM];
-    let r = frame::number();
-    let n = frame::slice(&mut a);
-    let other = frame::slice(&mut b);
-    calls::distance(r, &a[..n], &b[..other]);
-}
-
-fn slip_write() {
-    let mut points = [0u8; ROOM];
-    let mut row = [0u8; ROOM];
-    let mut bytes = [0u8; ROOM];
-    let m = frame::number();
-    let r = frame::number();
-    let k = frame::number();
-    let p = frame::slice(&mut points);
-    let n = frame::slice(&mut row);
-    let s = frame::slice(&mut bytes);
-    calls::slip_write(m, r, k, &points[..p], &row[..n], &mut bytes[..s]);
-}
-
-fn slip_read() {
-    let mut bytes = [0u8; ROOM];
-    let mut points = [0u8; ROOM];
-    let mut row = [0u8; ROOM];
-    let s = frame::slice(&mut bytes);
-    let p = frame::slice(&mut points);
-    let n = frame::slice(&mut row);
-    calls::slip_read(&bytes[..s], &mut points[..p], &mut row[..n]);
-}
-
-fn line() {
-    let mut bytes = [0u8; ROOM];
-    let mut text = [0u8; ROOM];
-    let s = frame::slice(&mut bytes);
-    let n = frame::slice(&mut text);
-    calls::line(&bytes[..s], &mut text[..n]);
-}
-
-// Runs one case, and says whether there was one.
-fn case() -> bool {
-    match frame::call() {
-        1 => encode(),
-        2 => decode(),
-        3 => distance(),
-        4 => slip_write(),
-        5 => slip_read(),
-        6 => line(),
-        _ => return false,
-    }
-    io::write_all(1, b"\n")
+    io::write_all(1, b"\n");
 }
 
 // Nothing says that the input ends, so the cases are counted.
 fn main() {
     let mut left = MOST;
     while 0 < left {
-        if !case() {
+        let call = frame::call();
+        if call < ENCODE || LINE < call {
             return;
         }
+        run(call);
         left -= 1;
     }
 }

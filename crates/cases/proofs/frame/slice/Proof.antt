@@ -6,6 +6,9 @@ use borrow.Author.Needs.{needs}
 use Rattle.cases.proofs.frame.slice.Statement.{statement}
 use Rattle.cases.proofs.frame.slice.Tie as tie
 
+returns : tie.Need-returns
+returns c = search needs
+
 slice-aggregate-read-full : tie.Need-slice-aggregate-read-full
 slice-aggregate-read-full c = search needs
 
@@ -30,8 +33,8 @@ mul-n c = search needs
 add-n : tie.Need-add-n
 add-n c = search needs
 
-returns : tie.Need-returns
-returns c = search needs
+returns-2 : tie.Need-returns-2
+returns-2 c = search needs
 
 slice-relend-prefix-read-full : tie.Need-slice-relend-prefix-read-full
 slice-relend-prefix-read-full c = search needs
@@ -45,13 +48,14 @@ read-full-requires-2 c κs = search needs
 same-length : tie.Need-same-length
 same-length c = search needs
 
-returns-2 : tie.Need-returns-2
-returns-2 c = (omega (arith, same-length c), sym (length-take-le _ _ (omega (arith, same-length c))))
+returns-3 : tie.Need-returns-3
+returns-3 c = (omega (arith, same-length c), sym (length-take-le _ _ (omega (arith, same-length c))))
 
 pub slice-spec : {M : Type 1} → statement M
 slice-spec =
     tie.close
     (tie.spec
+    returns
     slice-aggregate-read-full
     read-full-requires
     array-read-wide
@@ -60,9 +64,9 @@ slice-spec =
     wide-requires-2
     mul-n
     add-n
-    returns
+    returns-2
     slice-relend-prefix-read-full
     slice-aggregate-read-full-2
     read-full-requires-2
     same-length
-    returns-2)
+    returns-3)
