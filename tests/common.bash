@@ -20,7 +20,7 @@ quiet() {
 same() {
   cmp "$1" "$2" && return
   diff --text "$1" "$2" | head -n 20 >&2
-  fail "$1 is not what was found"
+  fail "$1 and $2 differ"
 }
 
 # in_second WORDS.., in_plq WORDS..: cargo in that package, with no network

@@ -1,6 +1,7 @@
 //! Writes a file of framed cases and the file of their expected answers, made by the reference alone.
 //!
-//! `cases DIRECTORY [SEED]` writes `cases.bin` and `expected.txt` there. The same seed gives the same files.
+//! `cases DIRECTORY [SEED]` writes `cases.bin` and `expected.txt` there. The same seed gives the same files; with the usual
+//! one they are `stdin` and `stdout` of `crates/cases`, which runs them through the proved calls.
 //! The cases worked by hand come first, then random ones. `frame` says how a case is framed; the answer to each is one
 //! line: number and detail, for the slip reader also m, r, count and k, then the final bytes of each buffer in
 //! hexadecimal, `-` for an empty one, with single spaces between.
