@@ -32,24 +32,24 @@ unfolding doneLine
 length-done d message depth =
     omega (arith, length-append (heading (Done d)) (listed message ++ (listed depth ++ (10 ∷ []))), length-append (listed message) (listed depth ++ (10 ∷ [])), length-append (listed depth) (10 ∷ []))
 
-number-small : (x : Refusal) → numberOf x < 100
-number-small Field = lit< tt
-number-small Depth = lit< tt
-number-small Points = lit< tt
-number-small Dimension = lit< tt
-number-small (PointHigh i) = lit< tt
-number-small (PointTwice i) = lit< tt
-number-small Length = lit< tt
-number-small (SymbolHigh i) = lit< tt
-number-small TooFar = lit< tt
-number-small SlipShort = lit< tt
-number-small Edition = lit< tt
-number-small SlipLong = lit< tt
+pub refusal-small : (x : Refusal) → numberOf x < 100
+refusal-small Field = lit< tt
+refusal-small Depth = lit< tt
+refusal-small Points = lit< tt
+refusal-small Dimension = lit< tt
+refusal-small (PointHigh i) = lit< tt
+refusal-small (PointTwice i) = lit< tt
+refusal-small Length = lit< tt
+refusal-small (SymbolHigh i) = lit< tt
+refusal-small TooFar = lit< tt
+refusal-small SlipShort = lit< tt
+refusal-small Edition = lit< tt
+refusal-small SlipLong = lit< tt
 
 -- two digits, a space, three digits and a newline
 pub refused-short : (x : Refusal) → placeOf x < 1000 → length (refusedLine x) ≤ room
 refused-short x h =
-    omega (arith, length-refused x, length-heading (No x), length-decimal 1 (numberOf x) (number-small x), length-decimal 2 (placeOf x) h)
+    omega (arith, length-refused x, length-heading (No x), length-decimal 1 (numberOf x) (refusal-small x), length-decimal 2 (placeOf x) h)
 
 -- symbols have three digits at most and depths one
 pub done-short : (d : ℕ) (message depth : List ℕ) → d < 1000 → length message ≤ longest → ((i : ℕ) → getD message i 0 < 1000)

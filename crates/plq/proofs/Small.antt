@@ -6,7 +6,7 @@ use native.Mathlib.Nat.{mul-le-mul}
 use native.Mathlib.Omega.{arith}
 use lib.Dec.{lit<}
 use lib.ListN.{length}
-use Rattle.defs.specs.Refusal.{numberOf, number, detail, answer}
+use Rattle.defs.specs.Refusal.{number, detail, answer}
 use Rattle.defs.specs.Distance.{radius}
 use Rattle.defs.specs.Limits.{deepest, longest}
 use Rattle.defs.specs.Encode.{encodeVerdict, distanceVerdict, distanceAnswer, Encoded}
@@ -16,7 +16,6 @@ use Rattle.defs.specs.Write.{writeVerdict, Written}
 use Rattle.defs.specs.Read.{readVerdict, reading, Read}
 use Rattle.defs.specs.Line.{lineVerdict, Lined}
 use Rattle.defs.specs.declared.Refusal.{Refusal}
-use Rattle.defs.specs.declared.Refusal.the-variants.{Field, Depth, Points, Dimension, PointHigh, PointTwice, Length, SymbolHigh, TooFar, SlipShort, Edition, SlipLong}
 use Rattle.defs.specs.declared.Verdict.{Verdict}
 use Rattle.defs.specs.declared.Verdict.the-variants.{Fine, Refused}
 use Rattle.defs.specs.declared.Answer.{Answer}
@@ -29,27 +28,14 @@ use Rattle.rows.proofs.Outcome.{distance-rows}
 use Rattle.theory.proofs.Width.{width-top}
 use Rattle.slip.proofs.Writer.{inside-width, writable, few, size-top}
 use Rattle.slip.proofs.Reader.{Sound, sound, points-few}
+use Rattle.line.proofs.Lengths.{refusal-small}
 use Rattle.line.proofs.Lines.{line-short}
 use Rattle.plq.specs.Packed.{Narrow}
 use Rattle.plq.proofs.Verdicts.{Small, encode-small, decode-small, write-small, distance-small, read-small, line-small}
 
-refusal-small : (x : Refusal) → numberOf x < 2 ^ 8
-refusal-small Field = lit< tt
-refusal-small Depth = lit< tt
-refusal-small Points = lit< tt
-refusal-small Dimension = lit< tt
-refusal-small (PointHigh i) = lit< tt
-refusal-small (PointTwice i) = lit< tt
-refusal-small Length = lit< tt
-refusal-small (SymbolHigh i) = lit< tt
-refusal-small TooFar = lit< tt
-refusal-small SlipShort = lit< tt
-refusal-small Edition = lit< tt
-refusal-small SlipLong = lit< tt
-
 pub number-small : (a : Answer) → number a < 2 ^ 8
 number-small (Done d) = lit< tt
-number-small (No x) = refusal-small x
+number-small (No x) = omega (arith, refusal-small x)
 
 -- ---- the details
 
