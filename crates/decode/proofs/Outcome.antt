@@ -29,6 +29,7 @@ use Rattle.theory.specs.Limits.{Limits}
 use Rattle.theory.proofs.Limits.{inside-known, count-small}
 use Rattle.theory.proofs.Checks.{decode-known}
 use Rattle.theory.proofs.Row.{length-row}
+use Rattle.theory.proofs.Verdict.{apart}
 use Rattle.code.specs.Checked.{pointsOf}
 use Rattle.code.proofs.Outcome.{Passed}
 use Rattle.rows.specs.Chunk.{Rows, Writable}
@@ -157,11 +158,11 @@ module _ (m r k : ℕ) (points w message depth : List ℕ) where
         pub long-message : s .verdict ≡ Fine → IsSought c w s → k ≤ length (s .message)
         long-message e (within e′ long sent near) =
             omega (arith, long, message-short-in)
-        long-message e (beyond e′ far) = absurd (let z : _≡_ {A = ℕ} 0 1 = cc in omega arith)
+        long-message e (beyond e′ far) = absurd (apart cc)
 
         pub long-row : s .verdict ≡ Fine → IsSought c w s → r * length points ≤ length (s .row)
         long-row e (within e′ long sent near) = omega (arith, sent .long, limits-in .numbers .row-top)
-        long-row e (beyond e′ far) = absurd (let z : _≡_ {A = ℕ} 0 1 = cc in omega arith)
+        long-row e (beyond e′ far) = absurd (apart cc)
 
         pub rows-measured : s .verdict ≡ Fine → IsSought c w s → Rows r (length depth) (take (r * length points) (s .row)) w
         rows-measured e x =
@@ -174,14 +175,14 @@ module _ (m r k : ℕ) (points w message depth : List ℕ) where
             }
 
         pub nothing-near : (x : Refusal) → s .verdict ≡ Refused x → IsSought c w s → Decoded m r k points w message depth (No x) message depth
-        nothing-near x e (within e′ l sent near) = absurd (let z : _≡_ {A = ℕ} 0 1 = cc in omega arith)
+        nothing-near x e (within e′ l sent near) = absurd (apart cc)
         nothing-near x e (beyond e′ far) =
             none (rest-is ∙ fine) (λ f near. far f (near-back f near)) (let h : x ≡ TooFar = cc in ap No h) refl refl
 
         pub decoded : s .verdict ≡ Fine → IsSought c w s → (message′ : List ℕ) → message′ ≡ front (take k (s .message)) message
             → (t : ℕ) (depth′ : List ℕ) → Measured r (take (r * length points) (s .row)) w depth t depth′
             → Decoded m r k points w message depth (Done t) message′ depth′
-        decoded e (beyond e′ far) message′ h t depth′ x = absurd (let z : _≡_ {A = ℕ} 0 1 = cc in omega arith)
+        decoded e (beyond e′ far) message′ h t depth′ x = absurd (apart cc)
         decoded e (within e′ long sent near) message′ h t depth′ x =
             let f : List ℕ = take k (s .message) in
             let same : take (c .k) (s .message) ≡ f = ap (λ (i : ℕ). take i (s .message)) (p .k-is) in

@@ -17,6 +17,7 @@ use Rattle.defs.specs.declared.Code.{Code}
 use Rattle.theory.specs.Limits.{Limits}
 use Rattle.theory.proofs.Limits.{inside-known, count-small}
 use Rattle.theory.proofs.Pair.{pair-exists, pair-divides, pair-nonzero}
+use Rattle.theory.proofs.Verdict.{apart}
 use Rattle.code.specs.Checked.{pointsOf, IsCode}
 use Rattle.rows.specs.Chunk.{Rows}
 use Rattle.pair.specs.declared.Paired.{Paired}
@@ -106,7 +107,7 @@ module _ (c : Code) (is : IsCode c) (w : List ℕ) (size : length w ≡ c .r * c
 
   -- what finding a pair answers
   pub pair-none : (a : Paired) (x : Refusal) → a .verdict ≡ Refused x → Found (c .m) (c .r) (c .k) points w a → (Q₀ Q₁ : List ℕ) → Pair Q₀ Q₁ → ⊥
-  pair-none a x e (Found.found e′ p) = absurd (let z : _≡_ {A = ℕ} 0 1 = cc in omega arith)
+  pair-none a x e (Found.found e′ p) = absurd (apart cc)
   pair-none a x e (Found.none e′ empty) = empty
 
   pub pair-found : (a : Paired) → a .verdict ≡ Fine → Found (c .m) (c .r) (c .k) points w a → (half t : ℕ) → half ≡ (length w + c .k) / 2
@@ -115,7 +116,7 @@ module _ (c : Code) (is : IsCode c) (w : List ℕ) (size : length w ≡ c .r * c
       let e₀ : half ≡ (c .r * length points + c .k) / 2 = h ∙ ap (λ (n : ℕ). (n + c .k) / 2) long in
       let e₁ : t + 1 ≡ suc (reach (c .r) (c .k) points) = omega (arith, h′, ap (λ (n : ℕ). radius n (c .k)) long) in
       rw (e₀, e₁) p
-  pair-found a e (Found.none e′ empty) half t h h′ = absurd (let z : _≡_ {A = ℕ} 0 1 = cc in omega arith)
+  pair-found a e (Found.none e′ empty) half t h h′ = absurd (apart cc)
 
   -- the parts of the two arrays that hold it
   pub parts : (a : Paired) → a .verdict ≡ Fine → Found (c .m) (c .r) (c .k) points w a → (t : ℕ) → t ≡ radius (length w) (c .k)

@@ -21,8 +21,9 @@ use Rattle.defs.specs.declared.Answer.{Answer}
 use Rattle.defs.specs.declared.Answer.the-variants.{Done, Refused as No}
 use Rattle.theory.specs.Limits.{Limits}
 use Rattle.theory.proofs.Place.{length-tab, getD-tab}
-use Rattle.theory.proofs.Limits.{inside-known, count-small, then-fine}
+use Rattle.theory.proofs.Limits.{inside-known, count-small}
 use Rattle.theory.proofs.Width.{field-top}
+use Rattle.theory.proofs.Verdict.{apart, then-fine}
 use Rattle.line.specs.Text.{room, Wrote, RowText}
 use Rattle.line.proofs.Lengths.{refused-short, done-short}
 use Rattle.line.proofs.Slips.{inside, refused-place}
@@ -78,14 +79,14 @@ module _ (m r k : ℕ) (points w message depth : List ℕ) (fine : decodeVerdict
 
   pub done-ready : (a : Answer) (message′ depth′ : List ℕ) (d : ℕ) → a ≡ Done d → Decoded m r k points w message depth a message′ depth′
       → Ready m r k points w (doneLine d message′ depth′)
-  done-ready a message′ depth′ d q (refused x v e _ _) = let z : _≡_ {A = ℕ} 0 1 = cc in absurd (omega arith)
+  done-ready a message′ depth′ d q (refused x v e _ _) = absurd (apart cc)
   done-ready a message′ depth′ d q (found f v near e e₁ e₂) = ready _ (L.found f near (cc))
-  done-ready a message′ depth′ d q (none v far e _ _) = let z : _≡_ {A = ℕ} 0 1 = cc in absurd (omega arith)
+  done-ready a message′ depth′ d q (none v far e _ _) = absurd (apart cc)
 
   pub refused-ready : (a : Answer) (message′ depth′ : List ℕ) (x : Refusal) → a ≡ No x → Decoded m r k points w message depth a message′ depth′
       → Ready m r k points w (refusedLine x)
-  refused-ready a message′ depth′ x q (refused y v e _ _) = let z : _≡_ {A = ℕ} 0 1 = cc in absurd (omega arith)
-  refused-ready a message′ depth′ x q (found f v near e _ _) = let z : _≡_ {A = ℕ} 0 1 = cc in absurd (omega arith)
+  refused-ready a message′ depth′ x q (refused y v e _ _) = absurd (apart cc)
+  refused-ready a message′ depth′ x q (found f v near e _ _) = absurd (apart cc)
   refused-ready a message′ depth′ x q (none v far e _ _) = ready _ (L.none far (cc))
 
 pub row-text : {m r k : ℕ} {points w t old new : List ℕ} {end : ℕ}

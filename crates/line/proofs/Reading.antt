@@ -17,6 +17,7 @@ use Rattle.defs.specs.declared.Verdict.the-variants.{Fine, Refused}
 use Rattle.defs.specs.declared.Answer.the-variants.{Done, Refused as No}
 use Rattle.defs.specs.declared.SlipRead.{SlipRead}
 use Rattle.theory.proofs.Limits.{count-small}
+use Rattle.theory.proofs.Verdict.{apart}
 use Rattle.line.specs.Text.{room, Wrote, Taken, SlipText, Text}
 use Rattle.line.proofs.Slips.{length-points, length-row, numbers, decodable, refused-place}
 use Rattle.line.proofs.Lengths.{refused-short}
@@ -31,13 +32,13 @@ take-front new old n e = take-at new (drop (length new) old) n e
 
 answer-refused : (v : Verdict) (bytes : List ℕ) (x : Refusal) → reading v bytes .answer ≡ No x → v ≡ Refused x
 unfolding reading
-answer-refused Fine bytes x e = let z : _≡_ {A = ℕ} 0 1 = cc in absurd (omega arith)
+answer-refused Fine bytes x e = absurd (apart cc)
 answer-refused (Refused y) bytes x e = cc
 
 answer-done : (v : Verdict) (bytes : List ℕ) (d : ℕ) → reading v bytes .answer ≡ Done d → v ≡ Fine
 unfolding reading
 answer-done Fine bytes d e = refl
-answer-done (Refused y) bytes d e = let z : _≡_ {A = ℕ} 0 1 = cc in absurd (omega arith)
+answer-done (Refused y) bytes d e = absurd (apart cc)
 
 -- two buffers of the longest row, and what the reader left in them
 module _ (bytes points row points′ row′ : List ℕ) (s : SlipRead) (points-room : length points ≡ longest) (row-room : length row ≡ longest)

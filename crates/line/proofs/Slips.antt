@@ -21,7 +21,8 @@ use Rattle.defs.specs.declared.Verdict.{Verdict}
 use Rattle.defs.specs.declared.Verdict.the-variants.{Fine, Refused}
 use Rattle.theory.specs.Limits.{Numbers}
 use Rattle.theory.proofs.Place.{length-tab, getD-tab, least-none, least-le}
-use Rattle.theory.proofs.Limits.{refuse-fine, then-fine, numbers-known}
+use Rattle.theory.proofs.Limits.{numbers-known}
+use Rattle.theory.proofs.Verdict.{refuse-fine, then-fine}
 use Rattle.slip.proofs.Bits.{all-bits-are, number-below}
 
 -- ---- symbols of m bits are below 2 ^ m

@@ -21,11 +21,12 @@ use Rattle.defs.specs.declared.Verdict.the-variants.{Fine, Refused}
 use Rattle.defs.specs.declared.Answer.{Answer}
 use Rattle.defs.specs.declared.Answer.the-variants.{Done, Refused as No}
 use Rattle.defs.specs.declared.SlipRead.{SlipRead}
-use Rattle.theory.proofs.Limits.{then-fine, inside-known}
+use Rattle.theory.proofs.Limits.{inside-known}
 use Rattle.theory.proofs.Checks.{decode-known}
 use Rattle.theory.proofs.Distance.{distance-agreement}
 use Rattle.rows.proofs.Outcome.{distance-rows}
 use Rattle.theory.proofs.Width.{width-top}
+use Rattle.theory.proofs.Verdict.{then-fine}
 use Rattle.slip.proofs.Writer.{inside-width, writable, few, size-top}
 use Rattle.slip.proofs.Reader.{Sound, sound, points-few}
 use Rattle.line.proofs.Lengths.{refusal-small}

@@ -18,10 +18,11 @@ use Rattle.defs.specs.declared.Answer.the-variants.{Done, Refused as No}
 use Rattle.theory.specs.Demand3.{damagedChunks}
 use Rattle.theory.proofs.Demand3.{near-unique, chunks-near}
 use Rattle.theory.proofs.Checks.{decode-known, decode-fine}
+use Rattle.theory.proofs.Verdict.{apart}
 use Rattle.promises.proofs.Encode.{done-encode, encode-done}
 
 refused-done : (a : Answer) (d : ℕ) (x : Refusal) → a ≡ Done d → a ≡ No x → ⊥
-refused-done a d x e e′ = let z : _≡_ {A = ℕ} 0 1 = cc in omega arith
+refused-done a d x e e′ = apart cc
 
 module _ (m r k : ℕ) (points w message depth : List ℕ) where
   abbrev Outcome : Answer → List ℕ → List ℕ → Type 0

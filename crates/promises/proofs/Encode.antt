@@ -14,17 +14,18 @@ use Rattle.defs.specs.declared.Verdict.the-variants.{Fine, Refused}
 use Rattle.defs.specs.declared.Answer.{Answer}
 use Rattle.defs.specs.declared.Answer.the-variants.{Done, Refused as No}
 use Rattle.theory.proofs.Checks.{encode-known, encode-fine}
+use Rattle.theory.proofs.Verdict.{apart}
 
 -- a done call passed its checks
 pub answer-done : (v : Verdict) (d d′ : ℕ) → answer v d ≡ Done d′ → v ≡ Fine
 unfolding answer
 answer-done Fine d d′ e = refl
-answer-done (Refused x) d d′ e = let z : _≡_ {A = ℕ} 0 1 = cc in absurd (omega arith)
+answer-done (Refused x) d d′ e = absurd (apart cc)
 
 -- and a refused one leaves a buffer as it was
 pub kept-refused : (v : Verdict) (d : ℕ) (x : Refusal) (new old : List ℕ) → answer v d ≡ No x → kept v new old ≡ old
 unfolding answer kept
-kept-refused Fine d x new old e = let z : _≡_ {A = ℕ} 0 1 = cc in absurd (omega arith)
+kept-refused Fine d x new old e = absurd (apart cc)
 kept-refused (Refused y) d x new old e = refl
 
 module _ (m r k : ℕ) (points f row : List ℕ) where

@@ -16,7 +16,8 @@ use Rattle.defs.specs.Read.{headVerdict, readVerdict}
 use Rattle.defs.specs.declared.Refusal.the-variants.{SlipShort, Edition, SlipLong}
 use Rattle.defs.specs.declared.Verdict.{Verdict}
 use Rattle.defs.specs.declared.Verdict.the-variants.{Fine, Refused}
-use Rattle.theory.proofs.Limits.{refuse-fine, then-fine, numbers-known, count-small}
+use Rattle.theory.proofs.Limits.{numbers-known, count-small}
+use Rattle.theory.proofs.Verdict.{refuse-fine, then-fine}
 use Rattle.slip.proofs.Bits.{length-bits, number-front}
 use Rattle.slip.proofs.Writer.{size-top}
 

@@ -14,6 +14,7 @@ use Rattle.defs.specs.declared.Verdict.the-variants.{Fine, Refused}
 use Rattle.defs.specs.declared.Answer.{Answer}
 use Rattle.defs.specs.declared.Answer.the-variants.{Done, Refused as No}
 use Rattle.theory.proofs.Demand3.{near-unique}
+use Rattle.theory.proofs.Verdict.{apart}
 use Rattle.line.specs.Text.{room}
 use Rattle.line.proofs.Slips.{inside}
 use Rattle.line.proofs.Lines.{line-short}
@@ -26,8 +27,8 @@ row-unique m r k points w t t′ within (none far e) (none far′ e′) = cc
 
 pub line-unique : (bytes t t′ : List ℕ) → Line bytes t → Line bytes t′ → t ≡ t′
 line-unique bytes t t′ (refused x v e) (refused y v′ e′) = cc
-line-unique bytes t t′ (refused x v e) (read v′ row) = let z : _≡_ {A = ℕ} 0 1 = cc in absurd (omega arith)
-line-unique bytes t t′ (read v row) (refused x v′ e) = let z : _≡_ {A = ℕ} 0 1 = cc in absurd (omega arith)
+line-unique bytes t t′ (refused x v e) (read v′ row) = absurd (apart cc)
+line-unique bytes t t′ (read v row) (refused x v′ e) = absurd (apart cc)
 line-unique bytes t t′ (read v row) (read v′ row′) = row-unique _ _ _ _ _ t t′ (inside bytes v) row row′
 
 pub lined-unique : (bytes buffer : List ℕ) (a a′ : Answer) (b b′ : List ℕ) → Lined bytes buffer a b → Lined bytes buffer a′ b′ → (a ≡ a′) × (b ≡ b′)
@@ -39,7 +40,7 @@ lined-unique bytes buffer a a′ b b′ u v =
 
 keeps : (v : Verdict) (n : ℕ) (new old b : List ℕ) (x : Refusal) → No x ≡ answer v n → b ≡ kept v new old → b ≡ old
 unfolding answer kept
-keeps Fine n new old b x a e = let z : _≡_ {A = ℕ} 0 1 = cc in absurd (omega arith)
+keeps Fine n new old b x a e = absurd (apart cc)
 keeps (Refused y) n new old b x a e = e
 
 pub refused-keeps : (bytes buffer : List ℕ) (x : Refusal) (b : List ℕ) → Lined bytes buffer (No x) b → b ≡ buffer

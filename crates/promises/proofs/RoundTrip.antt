@@ -18,7 +18,7 @@ use Rattle.defs.specs.declared.Verdict.the-variants.{Fine, Refused}
 use Rattle.defs.specs.declared.Answer.the-variants.{Done}
 use Rattle.defs.specs.declared.SlipRead.{SlipRead}
 use Rattle.theory.proofs.Place.{length-tab, tab-same, tab-getD}
-use Rattle.theory.proofs.Limits.{refuse-fine, then-fine}
+use Rattle.theory.proofs.Verdict.{apart, refuse-fine, then-fine}
 use Rattle.slip.specs.declared.Head.{Head}
 use Rattle.slip.specs.Head.{Fitting, Heads}
 use Rattle.slip.proofs.Bits.{number-symbol}
@@ -124,7 +124,7 @@ module _ (m r k : ℕ) (points w : List ℕ) where
 done-fine : (v : Verdict) (n d : ℕ) → Done d ≡ answer v n → v ≡ Fine
 unfolding answer
 done-fine Fine n d e = refl
-done-fine (Refused x) n d e = let z : _≡_ {A = ℕ} 0 1 = cc in absurd (omega arith)
+done-fine (Refused x) n d e = absurd (apart cc)
 
 -- what a writer that is done has written
 module _ (m r k d : ℕ) (points w bytes bytes′ : List ℕ) (t : Written m r k points w bytes (Done d) bytes′) where

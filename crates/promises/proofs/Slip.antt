@@ -21,6 +21,7 @@ use Rattle.defs.specs.declared.SlipRead.{SlipRead}
 use Rattle.slip.proofs.Bits.{all-bits-are, number-below}
 use Rattle.slip.proofs.Writer.{inside-width, writable, few, size-top}
 use Rattle.promises.proofs.RoundTrip.{length-slip}
+use Rattle.theory.proofs.Verdict.{apart}
 
 -- ---- two allowed outcomes are equal
 
@@ -36,7 +37,7 @@ read-same x y = (cc (x .answers, y .answers), cc (x .leaves-points, y .leaves-po
 
 kept-refused : (v : Verdict) (x : Refusal) (d : ℕ) (new old : List ℕ) → No x ≡ answer v d → kept v new old ≡ old
 unfolding answer kept
-kept-refused Fine x d new old e = let z : _≡_ {A = ℕ} 0 1 = cc in absurd (omega arith)
+kept-refused Fine x d new old e = absurd (apart cc)
 kept-refused (Refused y) x d new old e = refl
 
 pub write-refused : {m r k : ℕ} {points w bytes : List ℕ} {x : Refusal} {bytes′ : List ℕ} → Written m r k points w bytes (No x) bytes′ → bytes′ ≡ bytes
@@ -50,7 +51,7 @@ reading-answer (Refused x) bytes = refl
 
 reading-refused : (v : Verdict) (x : Refusal) (bytes : List ℕ) → No x ≡ answer v 0 → reading v bytes ≡ record { answer = No x; m = 0; r = 0; count = 0; k = 0 }
 unfolding reading answer
-reading-refused Fine x bytes e = let z : _≡_ {A = ℕ} 0 1 = cc in absurd (omega arith)
+reading-refused Fine x bytes e = absurd (apart cc)
 reading-refused (Refused y) x bytes e = cc
 
 pub read-refused : {bytes points row : List ℕ} {s : SlipRead} {x : Refusal} {points′ row′ : List ℕ} → Read bytes points row s points′ row′ → s .answer ≡ No x
@@ -119,7 +120,7 @@ unfolding readVerdict
 read-possible bytes count n = then-possible _ _ (head-possible bytes) (refuse-possible _ _ _ refl (refuse-possible _ _ _ refl fine-possible))
 
 not-other : (n k : ℕ) → other n ≡ true → other k ≡ false → n ≡ k → ⊥
-not-other n k a b e = let z : _≡_ {A = ℕ} 0 1 = cc in omega arith
+not-other n k a b e = apart cc
 
 pub reader-never : {bytes points row : List ℕ} {s : SlipRead} {points′ row′ : List ℕ} → Read bytes points row s points′ row′
     → (number (s .answer) ≡ 2 → ⊥) × (number (s .answer) ≡ 5 → ⊥) × (number (s .answer) ≡ 8 → ⊥)

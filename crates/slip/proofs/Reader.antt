@@ -21,7 +21,8 @@ use Rattle.defs.specs.declared.Answer.the-variants.{Done}
 use Rattle.defs.specs.declared.SlipRead.{SlipRead}
 use Rattle.theory.specs.Limits.{Numbers}
 use Rattle.theory.proofs.Place.{length-tab}
-use Rattle.theory.proofs.Limits.{refuse-fine, then-fine, numbers-known, count-small}
+use Rattle.theory.proofs.Limits.{numbers-known, count-small}
+use Rattle.theory.proofs.Verdict.{refuse-fine, then-fine}
 use Rattle.slip.specs.declared.Head.{Head}
 use Rattle.slip.specs.Head.{Heads, Holds}
 

@@ -19,9 +19,10 @@ use Rattle.defs.specs.declared.Verdict.{Verdict}
 use Rattle.defs.specs.declared.Verdict.the-variants.{Fine, Refused}
 use Rattle.defs.specs.declared.Answer.the-variants.{Done, Refused as No}
 use Rattle.theory.proofs.Place.{none-high}
-use Rattle.theory.proofs.Limits.{refuse-fine, then-fine, inside-known, count-small}
+use Rattle.theory.proofs.Limits.{inside-known, count-small}
 use Rattle.slip.specs.Head.{Fitting}
 use Rattle.theory.proofs.Width.{width-top}
+use Rattle.theory.proofs.Verdict.{refuse-fine, then-fine}
 use Rattle.slip.proofs.Bits.{symbols-append}
 use Rattle.slip.proofs.HeaderBits.{fitting}
 

@@ -17,7 +17,7 @@ use Rattle.defs.specs.declared.Refusal.{Refusal}
 use Rattle.defs.specs.declared.Verdict.{Verdict}
 use Rattle.defs.specs.declared.Verdict.the-variants.{Fine}
 use Rattle.theory.proofs.Place.{least-none, none-high}
-use Rattle.theory.proofs.Limits.{refuse-fine, then-fine}
+use Rattle.theory.proofs.Verdict.{refuse-fine, then-fine}
 
 -- a length that is as it must be
 same-length : (a b : ℕ) (x : Refusal) (v : Verdict) → refuse (not (eqb a b)) x v ≡ Fine → (a ≡ b) × (v ≡ Fine)

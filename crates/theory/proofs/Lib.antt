@@ -4,6 +4,7 @@ pub mod Width
 pub mod Generator
 pub mod Place
 pub mod Fill
+pub mod Verdict
 pub mod Limits
 pub mod Sum
 pub mod Linear
