@@ -18,13 +18,8 @@ use Rattle.defs.specs.declared.Verdict.{Verdict}
 use Rattle.defs.specs.declared.Verdict.the-variants.{Fine, Refused}
 use Rattle.theory.proofs.Limits.{numbers-known, count-small}
 use Rattle.theory.proofs.Verdict.{refuse-fine, then-fine}
-use Rattle.slip.proofs.Bits.{length-bits, number-front}
+use Rattle.slip.proofs.Bits.{length-all-bits, number-front}
 use Rattle.slip.proofs.Writer.{size-top}
-
-length-all-bits : (w : ℕ) (s : List ℕ) → length (allBits w s) ≡ w * length s
-unfolding allBits
-length-all-bits w [] = sym (mul-zero w)
-length-all-bits w (x ∷ s) = rw (length-append, length-bits, length-all-bits w s, mul-suc) (add-comm w (w * length s))
 
 all-bits-append : (w : ℕ) (s t : List ℕ) → allBits w (s ++ t) ≡ allBits w s ++ allBits w t
 unfolding allBits

@@ -6,7 +6,7 @@ use native.Mathlib.Nat.{zero-add, add-zero, suc-add, add-suc, add-comm, add-asso
 use native.Mathlib.Numerals.{one-add}
 use native.Mathlib.Omega.{arith}
 use lib.Dec.{lit<}
-use lib.ListN.{length, getD, List·getD-append}
+use lib.ListN.{length, getD, length-append, List·getD-append}
 use lib.Pow.{pow-add, mod-pow-add, high, low}
 use lib.Seq.{getD-append-add}
 use Rattle.defs.specs.Place.{Symbols}
@@ -39,6 +39,11 @@ unfolding allBits
 all-bits-are w [] i = lit< tt
 all-bits-are w (x ∷ s) i = symbols-append 1 (bits w x) (allBits w s) (bits-are w x) (all-bits-are w s) i
 
+pub length-all-bits : (w : ℕ) (s : List ℕ) → length (allBits w s) ≡ w * length s
+unfolding allBits
+length-all-bits w [] = sym (mul-zero w)
+length-all-bits w (x ∷ s) = rw (length-append, length-bits, length-all-bits w s, mul-suc) (add-comm w (w * length s))
+
 -- ---- numbers
 
 -- a number sees its own bits alone
@@ -69,6 +74,22 @@ number-inside a w c n p s e h =
     (rw (high (numberAt a p s * 2 ^ w + numberAt w (p + a) s) c (number-below c (p + a + w) s h))
     (low (numberAt a p s) w (number-below w (p + a) s h)))
 
+pub number-one : (p : ℕ) (s : List ℕ) → numberAt 1 p s ≡ getD s p 0
+unfolding numberAt
+number-one p s = omega arith
+
+-- equal numbers have equal bits
+pub bits-told : (w p q : ℕ) (s t : List ℕ) → Symbols 1 s → Symbols 1 t → numberAt w p s ≡ numberAt w q t
+    → (i : ℕ) → i < w → getD s (p + i) 0 ≡ getD t (q + i) 0
+bits-told w p q s t hs ht e i l =
+    let c = w - 1 - i in
+    let split : i + (1 + c) ≡ w = omega arith in
+    sym (number-one (p + i) s)
+    ∙ sym (number-inside i 1 c w p s split hs)
+    ∙ ap (λ (x : ℕ). x / 2 ^ c % 2 ^ 1) e
+    ∙ number-inside i 1 c w q t split ht
+    ∙ number-one (q + i) t
+
 -- bits behind others
 pub number-front : (w p : ℕ) (s t : List ℕ) → p + w ≤ length s → numberAt w p (s ++ t) ≡ numberAt w p s
 number-front w p s t h = number-same w p p (s ++ t) s (λ i l. List·getD-append s t 0 (p + i) (omega arith))
@@ -93,7 +114,7 @@ pub number-fields : (w v x : ℕ) (t : List ℕ) → numberAt (w + v) 0 (bits w 
 number-fields w v x t =
     rw (number-split, number-field, ← number-past v 0 w x t) (ap (λ (p : ℕ). x % 2 ^ w * 2 ^ v + numberAt v p (bits w x ++ t)) (omega arith))
 
-number-nil : (w p : ℕ) → numberAt w p [] ≡ 0
+pub number-nil : (w p : ℕ) → numberAt w p [] ≡ 0
 unfolding numberAt
 number-nil zero p = refl
 number-nil (suc w) p = rw (number-nil w (suc p)) (rw zero-mul)

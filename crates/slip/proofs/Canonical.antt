@@ -1,0 +1,105 @@
+-- Bytes that are read as a slip, with nothing in the bits that hold nothing, are the bytes that the writer makes of what was read.
+use Prim.Native.Nat.{ℕ, zero, suc, _+_, _*_, _-_, _/_, _%_, _^_, _<_, _≤_}
+use mathlib.Core.Path.{_≡_, refl, ap, sym, _∙_}
+use mathlib.Core.List.{List, [], _∷_, _++_}
+use native.Mathlib.Nat.{zero-add, mul-comm, mod-lt, mod-eq-of-lt, add-assoc, div-add-mod', div-lt-iff-lt-mul}
+use native.Mathlib.Omega.{arith}
+use native.Mathlib.Decide.{decLt}
+use lib.Dec.{lit<}
+use lib.ListN.{length, getD, List·getD-eq-default}
+use lib.Seq.{getD-append-add}
+use Rattle.defs.specs.Place.{tab, Symbols}
+use Rattle.defs.specs.Slip.{bits, allBits, numberAt, headerBits, slipSize, slipBits, slipOf, widthIn, depthIn, countIn, dimensionIn, sizeIn, symbolsIn, pointsIn, rowIn}
+use Rattle.theory.proofs.Place.{length-tab, getD-tab, tab-append, tab-same, tab-getD}
+use Rattle.theory.proofs.Width.{width-pos}
+use Rattle.slip.proofs.Bits.{length-all-bits, all-bits-are, number-below, number-nil, number-symbol, number-same, bits-told}
+use Rattle.slip.proofs.Packed.{byte-is, header-length, slip-bits-are, in-header}
+use Rattle.slip.proofs.Reader.{Sound}
+
+lt-eq : {a b c : ℕ} → a < b → b ≡ c → a < c
+lt-eq l e = omega arith
+
+-- the bits of the symbols that were read out of bits are these bits
+pub symbols-told : (m p n : ℕ) (s : List ℕ) → 0 < m → Symbols 1 s → (i : ℕ) → i < m * n
+    → getD (allBits m (tab (λ j. numberAt m (p + m * j) s) n)) i 0 ≡ getD s (p + i) 0
+symbols-told m p n s pos h i l =
+    let T : List ℕ = tab (λ j. numberAt m (p + m * j) s) n in
+    let j = i / m in
+    let b = i % m in
+    let whole : m * j + b ≡ i = ap (λ (x : ℕ). x + i % m) (mul-comm m (i / m)) ∙ div-add-mod' i m in
+    let there : j < n = div-lt-iff-lt-mul pos .1 (lt-eq l (mul-comm m n)) in
+    let symbol : numberAt m (m * j) (allBits m T) ≡ numberAt m (p + m * j) s =
+    number-symbol m T j ∙ rw (getD-tab (λ j. numberAt m (p + m * j) s) n j there) (mod-eq-of-lt (number-below m (p + m * j) s h)) in
+    let told : getD (allBits m T) (m * j + b) 0 ≡ getD s (p + m * j + b) 0 =
+    bits-told m (m * j) (p + m * j) (allBits m T) s (all-bits-are m T) h symbol b (mod-lt i pos) in
+    let place : p + m * j + b ≡ p + i = omega arith in
+    rw (whole, place) at told
+
+-- what was read of bytes, and the bits that hold nothing
+module _ (bytes : List ℕ) (are : Symbols 8 bytes) (s : Sound bytes) where
+  abbrev S : List ℕ
+  S = allBits 8 bytes
+
+  abbrev m : ℕ
+  m = widthIn bytes
+
+  abbrev N : ℕ
+  N = countIn bytes + depthIn bytes * countIn bytes
+
+  S-are : Symbols 1 S
+  S-are = all-bits-are 8 bytes
+
+  body-is : pointsIn bytes ++ rowIn bytes ≡ tab (λ j. numberAt m (24 + m * j) S) N
+  unfolding pointsIn rowIn symbolsIn
+  body-is = sym (tab-append (λ j. numberAt m (24 + m * j) S) (countIn bytes) (depthIn bytes * countIn bytes)
+      ∙ ap (λ (x : List ℕ). x ++ tab (λ j. numberAt m (24 + m * (countIn bytes + j)) S) (depthIn bytes * countIn bytes)) (tab-same _ _ (countIn bytes) (λ j l. rw (zero-add j))))
+
+  module _ (header : numberAt 24 0 (headerBits m (depthIn bytes) (dimensionIn bytes) (length (pointsIn bytes))) ≡ numberAt 24 0 S)
+      (fill : numberAt (8 * length bytes - (24 + m * N)) (24 + m * N) S ≡ 0) where
+    abbrev B : List ℕ
+    B = slipBits m (depthIn bytes) (dimensionIn bytes) (pointsIn bytes) (rowIn bytes)
+
+    B-are : Symbols 1 B
+    B-are = slip-bits-are m (depthIn bytes) (dimensionIn bytes) (pointsIn bytes) (rowIn bytes)
+
+    body-size : length (allBits m (pointsIn bytes ++ rowIn bytes)) ≡ m * N
+    body-size = rw body-is (length-all-bits m (tab (λ j. numberAt m (24 + m * j) S) N) ∙ ap (λ (x : ℕ). m * x) (length-tab _ N))
+
+    -- bit p behind the header
+    behind : (q : ℕ) → getD B (24 + q) 0 ≡ getD (allBits m (pointsIn bytes ++ rowIn bytes)) q 0
+    unfolding slipBits
+    behind q = rw (← header-length m (depthIn bytes) (dimensionIn bytes) (length (pointsIn bytes))) (getD-append-add (headerBits m (depthIn bytes) (dimensionIn bytes) (length (pointsIn bytes))) (allBits m (pointsIn bytes ++ rowIn bytes)) q 0)
+
+    bit-told : (p : ℕ) → p < 8 * length bytes → getD B p 0 ≡ getD S p 0
+    bit-told p l = by-place (decLt p 24) (decLt p (24 + m * N))
+      where
+        filled : 24 + m * N ≤ p → getD S p 0 ≡ 0
+        filled h =
+            let e : 24 + m * N + (p - (24 + m * N)) ≡ p = omega arith in
+            let b = bits-told (8 * length bytes - (24 + m * N)) (24 + m * N) 0 S [] S-are (λ i. lit< tt) (fill ∙ sym (number-nil _ 0)) (p - (24 + m * N)) (omega arith) in
+            rw e at b
+
+        by-place : Dec (p < 24) → Dec (p < 24 + m * N) → getD B p 0 ≡ getD S p 0
+        by-place (yes h) d =
+            let b = bits-told 24 0 0 B S B-are S-are (in-header m (depthIn bytes) (dimensionIn bytes) (pointsIn bytes) (rowIn bytes) 24 0 (omega arith) ∙ header) p h in
+            rw (zero-add p) at b
+        by-place (no h) (yes d) =
+            let e : 24 + (p - 24) ≡ p = omega arith in
+            ap (λ (x : ℕ). getD B x 0) (sym e) ∙ behind (p - 24) ∙ ap (λ (x : List ℕ). getD (allBits m x) (p - 24) 0) body-is
+            ∙ symbols-told m 24 N S (width-pos m (s .numbers .width)) S-are (p - 24) (omega arith) ∙ ap (λ (x : ℕ). getD S x 0) e
+        by-place (no h) (no d) =
+            let e : 24 + (p - 24) ≡ p = omega arith in
+            ap (λ (x : ℕ). getD B x 0) (sym e) ∙ behind (p - 24)
+            ∙ List·getD-eq-default (allBits m (pointsIn bytes ++ rowIn bytes)) 0 {n = p - 24} (omega (arith, body-size)) ∙ sym (filled (omega arith))
+
+    size-is : slipSize m (length (pointsIn bytes) + length (rowIn bytes)) ≡ length bytes
+    unfolding pointsIn rowIn symbolsIn sizeIn
+    size-is = rw (length-tab, length-tab) (sym (s .size))
+
+    slip-told : slipOf m (depthIn bytes) (dimensionIn bytes) (pointsIn bytes) (rowIn bytes) ≡ bytes
+    unfolding slipOf
+    slip-told =
+        rw (size-is)
+        (tab-same _ (λ i. getD bytes i 0) (length bytes)
+        (λ i l. number-same 8 (8 * i) (8 * i) B S (λ b h. bit-told (8 * i + b) (omega arith)) ∙ byte-is bytes are i)
+        ∙ tab-getD bytes)
