@@ -2,17 +2,17 @@
 use Prim.Native.Nat.{ℕ, zero, suc, _+_, _*_, _-_, _/_, _%_, _^_, _<_, _≤_}
 use mathlib.Core.Path.{_≡_, refl, ap, sym, _∙_}
 use mathlib.Core.List.{List, [], _∷_, _++_}
-use native.Mathlib.Nat.{zero-add, mul-comm, mod-lt, mod-eq-of-lt, add-assoc, div-add-mod', div-lt-iff-lt-mul}
+use native.Mathlib.Nat.{zero-add, mul-comm, mod-lt, mod-eq-of-lt, add-assoc, div-add-mod', div-lt-iff-lt-mul, div-one, pow-zero}
 use native.Mathlib.Omega.{arith}
 use native.Mathlib.Decide.{decLt}
 use lib.Dec.{lit<}
 use lib.ListN.{length, getD, List·getD-eq-default}
 use lib.Seq.{getD-append-add}
 use Rattle.defs.specs.Place.{tab, Symbols}
-use Rattle.defs.specs.Slip.{bits, allBits, numberAt, headerBits, slipSize, slipBits, slipOf, widthIn, depthIn, countIn, dimensionIn, sizeIn, symbolsIn, pointsIn, rowIn}
+use Rattle.defs.specs.Slip.{bits, allBits, numberAt, headerBits, slipSize, slipBits, slipOf, widthIn, depthIn, countIn, dimensionIn, sizeIn, symbolsIn, pointsIn, rowIn, spareIn, usedIn, fillIn}
 use Rattle.theory.proofs.Place.{length-tab, getD-tab, tab-append, tab-same, tab-getD}
 use Rattle.theory.proofs.Width.{width-pos}
-use Rattle.slip.proofs.Bits.{length-all-bits, all-bits-are, number-below, number-nil, number-symbol, number-same, bits-told}
+use Rattle.slip.proofs.Bits.{length-all-bits, all-bits-are, number-below, number-inside, number-nil, number-symbol, number-same, bits-told}
 use Rattle.slip.proofs.Packed.{byte-is, header-length, slip-bits-are, in-header}
 use Rattle.slip.proofs.Reader.{Sound}
 
@@ -53,6 +53,23 @@ module _ (bytes : List ℕ) (are : Symbols 8 bytes) (s : Sound bytes) where
   unfolding pointsIn rowIn symbolsIn
   body-is = sym (tab-append (λ j. numberAt m (24 + m * j) S) (countIn bytes) (depthIn bytes * countIn bytes)
       ∙ ap (λ (x : List ℕ). x ++ tab (λ j. numberAt m (24 + m * (countIn bytes + j)) S) (depthIn bytes * countIn bytes)) (tab-same _ _ (countIn bytes) (λ j l. rw (zero-add j))))
+
+  -- the fill is below a byte, and so it is what is left of the last one
+  fill-few : usedIn bytes ≤ 8 * length bytes × (8 * length bytes < usedIn bytes + 8)
+  unfolding usedIn sizeIn slipSize
+  fill-few = omega (arith, s .size, mul-comm m N)
+
+  pub fill-byte : (last left : ℕ) → last + 1 ≡ length bytes → left ≡ 8 * length bytes - usedIn bytes → getD bytes last 0 % 2 ^ left ≡ fillIn bytes
+  unfolding fillIn
+  fill-byte last left e q =
+      let c : (8 - left) + (left + 0) ≡ 8 = omega (arith, fill-few) in
+      let place : 8 * last + (8 - left) ≡ usedIn bytes = omega (arith, fill-few) in
+      let inside = number-inside (8 - left) left 0 8 (8 * last) S c S-are in
+      rw (← s .size, ← q) (rw (← byte-is bytes are last) (rw place at (simp (pow-zero, div-one) at inside)))
+
+  pub spare-byte : getD bytes 2 0 % 2 ≡ spareIn bytes
+  unfolding spareIn
+  spare-byte = omega (arith, number-inside 7 1 0 8 16 S refl S-are, byte-is bytes are 2)
 
   module _ (header : numberAt 24 0 (headerBits m (depthIn bytes) (dimensionIn bytes) (length (pointsIn bytes))) ≡ numberAt 24 0 S)
       (fill : numberAt (8 * length bytes - (24 + m * N)) (24 + m * N) S ≡ 0) where
