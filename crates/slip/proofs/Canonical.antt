@@ -9,9 +9,10 @@ use lib.Dec.{lit<}
 use lib.ListN.{length, getD, List·getD-eq-default}
 use lib.Seq.{getD-append-add}
 use Rattle.defs.specs.Place.{tab, Symbols}
-use Rattle.defs.specs.Slip.{bits, allBits, numberAt, headerBits, slipSize, slipBits, slipOf, widthIn, depthIn, countIn, dimensionIn, sizeIn, symbolsIn, pointsIn, rowIn, spareIn, usedIn, fillIn}
+use Rattle.defs.specs.Slip.{bits, allBits, numberAt, widthOf, fieldCode, slipSize, slipBits, slipOf, widthIn, depthIn, countIn, dimensionIn, sizeIn, symbolsIn, pointsIn, rowIn, spareIn, usedIn, fillIn}
 use Rattle.theory.proofs.Place.{length-tab, getD-tab, tab-append, tab-same, tab-getD}
 use Rattle.theory.proofs.Width.{width-pos}
+use Rattle.slip.specs.Head.{headerBits}
 use Rattle.slip.proofs.Bits.{length-all-bits, all-bits-are, number-below, number-inside, number-nil, number-symbol, number-same, bits-told}
 use Rattle.slip.proofs.Packed.{byte-is, header-length, slip-bits-are, in-header}
 use Rattle.slip.proofs.Reader.{Sound}
