@@ -8,13 +8,14 @@ use native.Mathlib.Decide.{decLt}
 use lib.Dec.{lit<}
 use lib.ListN.{length, getD, List·getD-eq-default}
 use lib.Seq.{getD-append-add}
-use Rattle.defs.specs.Place.{tab, Symbols}
-use Rattle.defs.specs.Slip.{bits, allBits, numberAt, widthOf, fieldCode, slipSize, slipBits, slipOf, widthIn, depthIn, countIn, dimensionIn, sizeIn, symbolsIn, pointsIn, rowIn, spareIn, usedIn, fillIn}
+use Rattle.defs.specs.Field.{Width}
+use Rattle.defs.specs.Place.{least, tab, Symbols}
+use Rattle.defs.specs.Slip.{bits, allBits, numberAt, widthOf, fieldCode, slipSize, slipBits, slipOf, editionIn, widthIn, depthIn, countIn, dimensionIn, sizeIn, symbolsIn, pointsIn, rowIn, spareIn, usedIn, fillIn}
 use Rattle.theory.proofs.Place.{length-tab, getD-tab, tab-append, tab-same, tab-getD}
 use Rattle.theory.proofs.Width.{width-pos}
 use Rattle.slip.specs.Head.{headerBits}
-use Rattle.slip.proofs.Bits.{length-all-bits, all-bits-are, number-below, number-inside, number-nil, number-symbol, number-same, bits-told}
-use Rattle.slip.proofs.Packed.{byte-is, header-length, slip-bits-are, in-header}
+use Rattle.slip.proofs.Bits.{length-all-bits, all-bits-are, number-below, number-inside, number-nil, number-one, number-split, number-fields, number-bits, number-symbol, number-same, bits-told}
+use Rattle.slip.proofs.Packed.{byte-is, slip-bits-are, in-header, behind-header}
 use Rattle.slip.proofs.Reader.{Sound}
 
 lt-eq : {a b c : ℕ} → a < b → b ≡ c → a < c
@@ -35,6 +36,14 @@ symbols-told m p n s pos h i l =
     bits-told m (m * j) (p + m * j) (allBits m T) s (all-bits-are m T) h symbol b (mod-lt i pos) in
     let place : p + m * j + b ≡ p + i = omega arith in
     rw (whole, place) at told
+
+-- a field is told by its width
+field-told : (f : ℕ) → Width (widthOf f) → fieldCode (widthOf f) ≡ f
+unfolding fieldCode widthOf least
+field-told zero w = refl
+field-told (suc zero) w = refl
+field-told (suc (suc zero)) w = refl
+field-told (suc (suc (suc f))) w = absurd (omega (arith, width-pos _ w))
 
 -- what was read of bytes, and the bits that hold nothing
 module _ (bytes : List ℕ) (are : Symbols 8 bytes) (s : Sound bytes) where
@@ -72,6 +81,14 @@ module _ (bytes : List ℕ) (are : Symbols 8 bytes) (s : Sound bytes) where
   unfolding spareIn
   spare-byte = omega (arith, number-inside 7 1 0 8 16 S refl S-are, byte-is bytes are 2)
 
+  header-told : editionIn bytes ≡ 1 → spareIn bytes ≡ 0 → numberAt 24 0 (headerBits m (depthIn bytes) (dimensionIn bytes) (countIn bytes)) ≡ numberAt 24 0 S
+  unfolding headerBits editionIn widthIn depthIn countIn dimensionIn spareIn
+  header-told edition spare =
+      rw (number-split 4 20 0 S, number-split 2 18 4 S, number-split 3 15 6 S, number-split 7 8 9 S, number-split 7 1 16 S)
+      (rw (number-fields 4 20 1, number-fields 2 18 (fieldCode m), number-fields 3 15 (depthIn bytes - 1), number-fields 7 8 (countIn bytes - 1), number-fields 7 1 (dimensionIn bytes - 1), number-bits 1 0)
+      (omega
+      (arith, edition, spare, field-told (numberAt 2 4 S) (s .numbers .width), number-below 2 4 S S-are, number-below 3 6 S S-are, number-below 7 9 S S-are, number-below 7 16 S S-are)))
+
   module _ (header : numberAt 24 0 (headerBits m (depthIn bytes) (dimensionIn bytes) (length (pointsIn bytes))) ≡ numberAt 24 0 S)
       (fill : numberAt (8 * length bytes - (24 + m * N)) (24 + m * N) S ≡ 0) where
     abbrev B : List ℕ
@@ -85,8 +102,9 @@ module _ (bytes : List ℕ) (are : Symbols 8 bytes) (s : Sound bytes) where
 
     -- bit p behind the header
     behind : (q : ℕ) → getD B (24 + q) 0 ≡ getD (allBits m (pointsIn bytes ++ rowIn bytes)) q 0
-    unfolding slipBits
-    behind q = rw (← header-length m (depthIn bytes) (dimensionIn bytes) (length (pointsIn bytes))) (getD-append-add (headerBits m (depthIn bytes) (dimensionIn bytes) (length (pointsIn bytes))) (allBits m (pointsIn bytes ++ rowIn bytes)) q 0)
+    behind q =
+        sym (number-one (24 + q) B) ∙ behind-header m (depthIn bytes) (dimensionIn bytes) (pointsIn bytes) (rowIn bytes) 1 q
+        ∙ number-one q (allBits m (pointsIn bytes ++ rowIn bytes))
 
     bit-told : (p : ℕ) → p < 8 * length bytes → getD B p 0 ≡ getD S p 0
     bit-told p l = by-place (decLt p 24) (decLt p (24 + m * N))
