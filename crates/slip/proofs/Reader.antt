@@ -12,7 +12,7 @@ use Rattle.defs.specs.Refusal.{refuse, andThen, kept}
 use Rattle.defs.specs.Limits.{longest, numbersVerdict, firstTwice}
 use Rattle.defs.specs.Slip.{slipSize, widthIn, depthIn, countIn, dimensionIn, sizeIn, symbolsIn, pointsIn, rowIn}
 use Rattle.defs.specs.Write.{front}
-use Rattle.defs.specs.Read.{headVerdict, readVerdict, reading, Read}
+use Rattle.defs.specs.Read.{firstVerdict, headVerdict, readVerdict, reading, Read}
 use Rattle.defs.specs.declared.Refusal.{Refusal}
 use Rattle.defs.specs.declared.Refusal.the-variants.{PointTwice, Length, SlipShort, Edition, SlipLong}
 use Rattle.defs.specs.declared.Verdict.{Verdict}
@@ -28,45 +28,77 @@ use Rattle.slip.specs.Head.{Heads, Holds}
 
 -- ---- the checks of header and size
 
+-- what a header that was read says of the numbers and the size
+pub head-numbers : (bytes : List ℕ) (h : Head) → Heads bytes h → numbersVerdict (widthIn bytes) (depthIn bytes) (dimensionIn bytes) (countIn bytes) ≡ Fine
+    → numbersVerdict (h .m) (h .r) (h .k) (h .count) ≡ Fine
+head-numbers bytes h s e = rw (s .m-is, s .r-is, s .k-is, s .count-is) e
+
+pub size-is : (bytes : List ℕ) (h : Head) → Heads bytes h → (size : ℕ) → size ≡ slipSize (h .m) (h .count + h .r * h .count) → sizeIn bytes ≡ size
+unfolding sizeIn
+size-is bytes h s size q = rw (← s .m-is, ← s .r-is, ← s .count-is) (sym q)
+
 module _ (bytes : List ℕ) where
-  pub head-short : length bytes < 3 → Refused SlipShort ≡ headVerdict bytes
-  unfolding headVerdict refuse
-  head-short l = rw (lt-ltb (length bytes) 3 l)
+  pub first-short : length bytes < 3 → Refused SlipShort ≡ firstVerdict bytes
+  unfolding firstVerdict refuse
+  first-short l = rw (lt-ltb (length bytes) 3 l)
 
   module _ (long : 3 ≤ length bytes) (h : Head) (s : Heads bytes h) where
-    pub head-edition : (h .edition ≡ 1 → ⊥) → Refused Edition ≡ headVerdict bytes
-    unfolding headVerdict refuse
-    head-edition n = rw (le-ltb (length bytes) 3 long, ← s .edition-is, ne-eqb (h .edition) 1 n)
+    pub first-edition : (h .edition ≡ 1 → ⊥) → Refused Edition ≡ firstVerdict bytes
+    unfolding firstVerdict refuse
+    first-edition n = rw (le-ltb (length bytes) 3 long, ← s .edition-is, ne-eqb (h .edition) 1 n)
 
     module _ (e : h .edition ≡ 1) where
-      pub head-numbers : (x : Refusal) → numbersVerdict (h .m) (h .r) (h .k) (h .count) ≡ Refused x → Refused x ≡ headVerdict bytes
-      unfolding headVerdict refuse andThen
-      head-numbers x v =
+      pub first-numbers : (x : Refusal) → numbersVerdict (h .m) (h .r) (h .k) (h .count) ≡ Refused x → Refused x ≡ firstVerdict bytes
+      unfolding firstVerdict refuse andThen
+      first-numbers x v =
           rw (le-ltb (length bytes) 3 long, ← s .edition-is, eq-eqb (h .edition) 1 e, ← s .m-is, ← s .r-is, ← s .k-is, ← s .count-is, v)
 
       module _ (v : numbersVerdict (h .m) (h .r) (h .k) (h .count) ≡ Fine) (size : ℕ) (q : size ≡ slipSize (h .m) (h .count + h .r * h .count)) where
-        size-is : sizeIn bytes ≡ size
-        unfolding sizeIn
-        size-is = rw (← s .m-is, ← s .r-is, ← s .count-is) (sym q)
+        by-size : (x : Verdict) → x ≡ refuse (ltb (length bytes) size) SlipShort Fine → x ≡ firstVerdict bytes
+        unfolding firstVerdict refuse andThen
+        by-size x p =
+            rw (size-is bytes h s size q, le-ltb (length bytes) 3 long, ← s .edition-is, eq-eqb (h .edition) 1 e, ← s .m-is, ← s .r-is, ← s .k-is, ← s .count-is, v) p
 
-        by-size : (x : Verdict) → x ≡ refuse (ltb (length bytes) size) SlipShort (refuse (ltb size (length bytes)) SlipLong Fine) → x ≡ headVerdict bytes
-        unfolding headVerdict refuse andThen
-        by-size x p = rw (size-is, le-ltb (length bytes) 3 long, ← s .edition-is, eq-eqb (h .edition) 1 e, ← s .m-is, ← s .r-is, ← s .k-is, ← s .count-is, v) p
-
-        pub head-small : length bytes < size → Refused SlipShort ≡ headVerdict bytes
+        pub first-small : length bytes < size → Refused SlipShort ≡ firstVerdict bytes
         unfolding refuse
-        head-small l = by-size (Refused SlipShort) (rw (lt-ltb (length bytes) size l))
+        first-small l = by-size (Refused SlipShort) (rw (lt-ltb (length bytes) size l))
 
-        module _ (enough : size ≤ length bytes) where
-          pub head-large : size < length bytes → Refused SlipLong ≡ headVerdict bytes
-          unfolding refuse
-          head-large l = by-size (Refused SlipLong) (rw (le-ltb (length bytes) size enough, lt-ltb size (length bytes) l))
+        pub first-fine : size ≤ length bytes → Fine ≡ firstVerdict bytes
+        unfolding refuse
+        first-fine l = by-size Fine (rw (le-ltb (length bytes) size l))
 
-          pub head-fine : length bytes ≤ size → Fine ≡ headVerdict bytes
-          unfolding refuse
-          head-fine l = by-size Fine (rw (le-ltb (length bytes) size enough, le-ltb size (length bytes) l))
+  pub head-first : (x : Refusal) → firstVerdict bytes ≡ Refused x → Refused x ≡ headVerdict bytes
+  unfolding headVerdict andThen
+  head-first x e = rw e
 
--- what they show of the bytes
+  module _ (e : firstVerdict bytes ≡ Fine) where
+    pub head-large : sizeIn bytes < length bytes → Refused SlipLong ≡ headVerdict bytes
+    unfolding headVerdict andThen refuse
+    head-large l = rw (e, lt-ltb (sizeIn bytes) (length bytes) l)
+
+    pub head-fine : length bytes ≤ sizeIn bytes → Fine ≡ headVerdict bytes
+    unfolding headVerdict andThen refuse
+    head-fine l = rw (e, le-ltb (sizeIn bytes) (length bytes) l)
+
+-- what they show of bytes that begin with a slip, and of a slip
+pub record Begins (bytes : List ℕ) : Type 0 where
+  pub long : 3 ≤ length bytes
+  pub fine : numbersVerdict (widthIn bytes) (depthIn bytes) (dimensionIn bytes) (countIn bytes) ≡ Fine
+  pub size : sizeIn bytes ≤ length bytes
+
+pub begins : (bytes : List ℕ) → firstVerdict bytes ≡ Fine → Begins bytes
+unfolding firstVerdict
+begins bytes e =
+    let e1 = refuse-fine _ _ _ e in
+    let e2 = refuse-fine _ _ _ (e1 .1) in
+    let e3 = then-fine (numbersVerdict (widthIn bytes) (depthIn bytes) (dimensionIn bytes) (countIn bytes)) _ (e2 .1) in
+    let e4 = refuse-fine _ _ _ (e3 .1) in
+    record {
+      long = ltb-false (length bytes) 3 (e1 .0);
+      fine = e3 .0;
+      size = ltb-false (length bytes) (sizeIn bytes) (e4 .0);
+    }
+
 pub record Sound (bytes : List ℕ) : Type 0 where
   pub long : 3 ≤ length bytes
   pub numbers : Numbers (widthIn bytes) (depthIn bytes) (dimensionIn bytes) (countIn bytes)
@@ -75,15 +107,12 @@ pub record Sound (bytes : List ℕ) : Type 0 where
 pub sound : (bytes : List ℕ) → headVerdict bytes ≡ Fine → Sound bytes
 unfolding headVerdict
 sound bytes e =
-    let e1 = refuse-fine _ _ _ e in
-    let e2 = refuse-fine _ _ _ (e1 .1) in
-    let e3 = then-fine (numbersVerdict (widthIn bytes) (depthIn bytes) (dimensionIn bytes) (countIn bytes)) _ (e2 .1) in
-    let e4 = refuse-fine _ _ _ (e3 .1) in
-    let e5 = refuse-fine _ _ _ (e4 .1) in
+    let e1 = then-fine (firstVerdict bytes) _ e in
+    let b = begins bytes (e1 .0) in
     record {
-      long = ltb-false (length bytes) 3 (e1 .0);
-      numbers = numbers-known _ _ _ _ (e3 .0);
-      size = omega (arith, ltb-false (length bytes) (sizeIn bytes) (e4 .0), ltb-false (sizeIn bytes) (length bytes) (e5 .0));
+      long = b .long;
+      numbers = numbers-known _ _ _ _ (b .fine);
+      size = omega (arith, b .size, ltb-false (sizeIn bytes) (length bytes) (refuse-fine _ _ _ (e1 .1) .0));
     }
 
 -- ---- the symbols that a sound slip holds
