@@ -21,23 +21,14 @@ use Rattle.theory.proofs.Verdict.{refuse-fine, then-fine}
 use Rattle.slip.proofs.Bits.{length-bits, number-front}
 use Rattle.slip.proofs.Writer.{size-top}
 
-length-all-bits : (w : ℕ) (s : List ℕ) → length (allBits w s) ≡ w * length s
-unfolding allBits
-length-all-bits w [] = sym (mul-zero w)
-length-all-bits w (x ∷ s) = rw (length-append, length-bits, length-all-bits w s, mul-suc) (add-comm w (w * length s))
-
-all-bits-append : (w : ℕ) (s t : List ℕ) → allBits w (s ++ t) ≡ allBits w s ++ allBits w t
-unfolding allBits
-all-bits-append w [] t = refl
-all-bits-append w (x ∷ s) t = rw (all-bits-append w s t, append-assoc)
-
 -- what bytes of at least 260 are refused by: 11, 1, 3, 4, 12
 longVerdict : ℕ → ℕ → ℕ → ℕ → ℕ → Verdict
 longVerdict edition m r k count = refuse (not (eqb edition 1)) Edition (andThen (numbersVerdict m r k count) (Refused SlipLong))
 
 module _ (bytes : List ℕ) (long : 260 ≤ length bytes) where
   by-numbers : (v : Verdict) → numbersVerdict (widthIn bytes) (depthIn bytes) (dimensionIn bytes) (countIn bytes) ≡ v
-      → andThen v (refuse (ltb (length bytes) (sizeIn bytes)) SlipShort (refuse (ltb (sizeIn bytes) (length bytes)) SlipLong Fine)) ≡ andThen v (Refused SlipLong)
+      → andThen (andThen v (refuse (ltb (length bytes) (sizeIn bytes)) SlipShort Fine)) (refuse (ltb (sizeIn bytes) (length bytes)) SlipLong Fine)
+      ≡ andThen v (Refused SlipLong)
   unfolding andThen refuse sizeIn
   by-numbers (Refused x) e = refl
   by-numbers Fine e =
@@ -46,8 +37,12 @@ module _ (bytes : List ℕ) (long : 260 ≤ length bytes) where
       rw (le-ltb (length bytes) (sizeIn bytes) (omega arith), lt-ltb (sizeIn bytes) (length bytes) (omega arith))
 
   head-long : headVerdict bytes ≡ longVerdict (editionIn bytes) (widthIn bytes) (depthIn bytes) (dimensionIn bytes) (countIn bytes)
-  unfolding headVerdict longVerdict refuse
-  head-long = rw (le-ltb (length bytes) 3 (omega arith), by-numbers _ refl)
+  unfolding headVerdict firstVerdict longVerdict refuse
+  head-long = rw (le-ltb (length bytes) 3 (omega arith)) (by-edition (not (eqb (editionIn bytes) 1)))
+    where
+      by-edition : (b : Bool) → andThen (refuse b Edition _) _ ≡ refuse b Edition _
+      by-edition true = refl
+      by-edition false = by-numbers _ refl
 
 never-fine : (b : Bool) (v v′ : Verdict) → andThen (refuse b Edition (andThen v (Refused SlipLong))) v′ ≡ refuse b Edition (andThen v (Refused SlipLong))
 unfolding refuse andThen
@@ -60,21 +55,12 @@ read-long : (bytes : List ℕ) → 260 ≤ length bytes → (count n : ℕ)
 unfolding readVerdict longVerdict
 read-long bytes long count n = rw (head-long bytes long) (never-fine _ _ _)
 
-field-kept : (bytes : List ℕ) → 260 ≤ length bytes → (v p : ℕ) → p + v ≤ 24 → numberAt v p (allBits 8 (take 260 bytes)) ≡ numberAt v p (allBits 8 bytes)
-field-kept bytes long v p l =
-    sym
-    (ap (λ (s : List ℕ). numberAt v p (allBits 8 s)) (sym (take-append-drop 260 bytes))
-    ∙ rw (all-bits-append 8 (take 260 bytes) (drop 260 bytes))
-    (number-front v p (allBits 8 (take 260 bytes)) (allBits 8 (drop 260 bytes)) (omega (arith, length-all-bits 8 (take 260 bytes), length-take-le 260 bytes long))))
-
 -- THE FIRST 260 BYTES DECIDE
 pub enough : (bytes : List ℕ) → 260 ≤ length bytes → (count n : ℕ) → readVerdict (take 260 bytes) count n ≡ readVerdict bytes count n
-unfolding editionIn widthIn depthIn countIn dimensionIn
 enough bytes long count n =
     let first : 260 ≤ length (take 260 bytes) = omega (arith, length-take-le 260 bytes long) in
-    let keeps = field-kept bytes long in
-    rw (read-long (take 260 bytes) first count n, read-long bytes long count n)
-    (rw (keeps 4 0 (omega arith), keeps 2 4 (omega arith), keeps 3 6 (omega arith), keeps 7 9 (omega arith), keeps 7 16 (omega arith)))
+    let h = head-kept 260 bytes (omega arith) long in
+    rw (read-long (take 260 bytes) first count n, read-long bytes long count n, h .edition, h .width, h .depth, h .dimension, h .count)
 
 pub long-refused : (bytes : List ℕ) → 260 ≤ length bytes → (count n : ℕ) → readVerdict bytes count n ≡ Fine → ⊥
 unfolding longVerdict

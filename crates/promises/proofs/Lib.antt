@@ -3,8 +3,10 @@ pub mod Encode
 pub mod Decode
 pub mod RoundTrip
 pub mod Slip
+pub mod Header
 pub mod Enough
 pub mod WorkedSlip
 pub mod Line
 pub mod Packed
 pub mod Unpacked
+pub mod Roll

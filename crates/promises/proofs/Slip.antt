@@ -11,7 +11,7 @@ use Rattle.defs.specs.Refusal.{numberOf, number, refuse, andThen, answer, kept}
 use Rattle.defs.specs.Limits.{deepest, numbersVerdict}
 use Rattle.defs.specs.Slip.{allBits, slipOf, depthIn}
 use Rattle.defs.specs.Write.{writeVerdict, Written}
-use Rattle.defs.specs.Read.{headVerdict, readVerdict, reading, Read}
+use Rattle.defs.specs.Read.{firstVerdict, headVerdict, readVerdict, reading, Read}
 use Rattle.defs.specs.declared.Refusal.{Refusal}
 use Rattle.defs.specs.declared.Verdict.{Verdict}
 use Rattle.defs.specs.declared.Verdict.the-variants.{Fine, Refused}
@@ -107,13 +107,14 @@ numbers-possible m r k count a b =
     (refuse-possible _ _ _ refl (pass-possible _ _ (refuse-possible _ _ _ refl (refuse-possible _ _ _ refl fine-possible))))
 
 head-possible : (bytes : List ℕ) → Possible (headVerdict bytes)
-unfolding headVerdict
+unfolding headVerdict firstVerdict
 head-possible bytes =
     let d = depth-possible bytes in
-    refuse-possible _ _ _ refl
+    then-possible _ _
     (refuse-possible _ _ _ refl
-    (then-possible _ _ (numbers-possible _ _ _ _ (d .0) (d .1))
-    (refuse-possible _ _ _ refl (refuse-possible _ _ _ refl fine-possible))))
+    (refuse-possible _ _ _ refl
+    (then-possible _ _ (numbers-possible _ _ _ _ (d .0) (d .1)) (refuse-possible _ _ _ refl fine-possible))))
+    (refuse-possible _ _ _ refl fine-possible)
 
 read-possible : (bytes : List ℕ) (count n : ℕ) → Possible (readVerdict bytes count n)
 unfolding readVerdict

@@ -7,10 +7,10 @@ use native.Mathlib.Omega.{arith}
 use lib.Dec.{ltb}
 use lib.ListN.{length, take, drop}
 use lib.Seq.{take-at}
-use borrow.Author.Tests.{lt-ltb, le-ltb, eq-eqb, ne-eqb, ltb-false}
+use borrow.Author.Tests.{lt-ltb, le-ltb, eq-eqb, ne-eqb, ltb-false, eqb-true, not-false}
 use Rattle.defs.specs.Refusal.{refuse, andThen, kept}
 use Rattle.defs.specs.Limits.{longest, numbersVerdict, firstTwice}
-use Rattle.defs.specs.Slip.{slipSize, widthIn, depthIn, countIn, dimensionIn, sizeIn, symbolsIn, pointsIn, rowIn}
+use Rattle.defs.specs.Slip.{slipSize, editionIn, widthIn, depthIn, countIn, dimensionIn, sizeIn, symbolsIn, pointsIn, rowIn}
 use Rattle.defs.specs.Write.{front}
 use Rattle.defs.specs.Read.{firstVerdict, headVerdict, readVerdict, reading, Read}
 use Rattle.defs.specs.declared.Refusal.{Refusal}
@@ -83,6 +83,7 @@ module _ (bytes : List ℕ) where
 -- what they show of bytes that begin with a slip, and of a slip
 pub record Begins (bytes : List ℕ) : Type 0 where
   pub long : 3 ≤ length bytes
+  pub edition : editionIn bytes ≡ 1
   pub fine : numbersVerdict (widthIn bytes) (depthIn bytes) (dimensionIn bytes) (countIn bytes) ≡ Fine
   pub size : sizeIn bytes ≤ length bytes
 
@@ -95,9 +96,14 @@ begins bytes e =
     let e4 = refuse-fine _ _ _ (e3 .1) in
     record {
       long = ltb-false (length bytes) 3 (e1 .0);
+      edition = eqb-true (editionIn bytes) 1 (not-false _ (e2 .0));
       fine = e3 .0;
       size = ltb-false (length bytes) (sizeIn bytes) (e4 .0);
     }
+
+pub begun : (bytes : List ℕ) → Begins bytes → firstVerdict bytes ≡ Fine
+unfolding firstVerdict refuse andThen
+begun bytes b = rw (le-ltb (length bytes) 3 (b .long), eq-eqb (editionIn bytes) 1 (b .edition), b .fine, le-ltb (length bytes) (sizeIn bytes) (b .size))
 
 pub record Sound (bytes : List ℕ) : Type 0 where
   pub long : 3 ≤ length bytes
