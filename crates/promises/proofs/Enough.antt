@@ -1,31 +1,39 @@
--- The first 260 bytes decide how a slip is read: what is longer is refused, and by the same number.
-use Prim.Native.Nat.{ℕ, _+_, _*_, _≤_}
+-- A byte more than the longest slip has decides how a slip is read: what is longer is refused, and by the same number.
+use Prim.Native.Nat.{ℕ, _+_, _*_, _<_, _≤_}
 use mathlib.Core.Bool.{Bool, true, false, not}
-use mathlib.Core.Path.{_≡_, refl, ap, sym, _∙_}
-use mathlib.Core.List.{List, [], _∷_, _++_, append-assoc}
-use native.Mathlib.Nat.{mul-zero, mul-suc, add-comm}
+use mathlib.Core.Path.{_≡_, refl, sym, _∙_}
+use mathlib.Core.List.{List}
 use native.Mathlib.Omega.{arith}
 use lib.Dec.{eqb, ltb}
-use lib.ListN.{length, take, drop, length-append, take-append-drop}
+use lib.ListN.{length, take}
 use lib.Seq.{length-take-le}
 use borrow.Author.Tests.{lt-ltb, le-ltb}
 use Rattle.defs.specs.Refusal.{refuse, andThen}
 use Rattle.defs.specs.Limits.{numbersVerdict}
-use Rattle.defs.specs.Slip.{allBits, numberAt, editionIn, widthIn, depthIn, countIn, dimensionIn, sizeIn}
-use Rattle.defs.specs.Read.{headVerdict, readVerdict}
+use Rattle.defs.specs.Slip.{slipSize, longestSlip, editionIn, widthIn, depthIn, countIn, dimensionIn, sizeIn}
+use Rattle.defs.specs.Read.{firstVerdict, headVerdict, readVerdict}
 use Rattle.defs.specs.declared.Refusal.the-variants.{SlipShort, Edition, SlipLong}
 use Rattle.defs.specs.declared.Verdict.{Verdict}
 use Rattle.defs.specs.declared.Verdict.the-variants.{Fine, Refused}
 use Rattle.theory.proofs.Limits.{numbers-known, count-small}
 use Rattle.theory.proofs.Verdict.{refuse-fine, then-fine}
-use Rattle.slip.proofs.Bits.{length-bits, number-front}
 use Rattle.slip.proofs.Writer.{size-top}
+use Rattle.promises.proofs.Header.{head-kept}
 
--- what bytes of at least 260 are refused by: 11, 1, 3, 4, 12
+abbrev pub enoughBytes : ℕ
+enoughBytes = longestSlip + 1
+
+-- what bytes beyond the longest slip are refused by: 11, 1, 3, 4, 12
 longVerdict : ℕ → ℕ → ℕ → ℕ → ℕ → Verdict
 longVerdict edition m r k count = refuse (not (eqb edition 1)) Edition (andThen (numbersVerdict m r k count) (Refused SlipLong))
 
-module _ (bytes : List ℕ) (long : 260 ≤ length bytes) where
+-- past the length and the edition
+by-edition : (b : Bool) (u v w : Verdict) → andThen u v ≡ w → andThen (refuse false SlipShort (refuse b Edition u)) v ≡ refuse b Edition w
+unfolding refuse andThen
+by-edition true u v w e = refl
+by-edition false u v w e = e
+
+module _ (bytes : List ℕ) (long : longestSlip < length bytes) where
   by-numbers : (v : Verdict) → numbersVerdict (widthIn bytes) (depthIn bytes) (dimensionIn bytes) (countIn bytes) ≡ v
       → andThen (andThen v (refuse (ltb (length bytes) (sizeIn bytes)) SlipShort Fine)) (refuse (ltb (sizeIn bytes) (length bytes)) SlipLong Fine)
       ≡ andThen v (Refused SlipLong)
@@ -33,16 +41,12 @@ module _ (bytes : List ℕ) (long : 260 ≤ length bytes) where
   by-numbers (Refused x) e = refl
   by-numbers Fine e =
       let n = numbers-known _ _ _ _ e in
-      let top : sizeIn bytes ≤ 259 = size-top (widthIn bytes) (countIn bytes + depthIn bytes * countIn bytes) (n .width) (omega (arith, count-small n, n .row-top)) in
+      let top : sizeIn bytes ≤ longestSlip = size-top (widthIn bytes) (countIn bytes + depthIn bytes * countIn bytes) (n .width) (omega (arith, count-small n, n .row-top)) in
       rw (le-ltb (length bytes) (sizeIn bytes) (omega arith), lt-ltb (sizeIn bytes) (length bytes) (omega arith))
 
   head-long : headVerdict bytes ≡ longVerdict (editionIn bytes) (widthIn bytes) (depthIn bytes) (dimensionIn bytes) (countIn bytes)
-  unfolding headVerdict firstVerdict longVerdict refuse
-  head-long = rw (le-ltb (length bytes) 3 (omega arith)) (by-edition (not (eqb (editionIn bytes) 1)))
-    where
-      by-edition : (b : Bool) → andThen (refuse b Edition _) _ ≡ refuse b Edition _
-      by-edition true = refl
-      by-edition false = by-numbers _ refl
+  unfolding headVerdict firstVerdict longVerdict slipSize
+  head-long = rw (le-ltb (length bytes) 3 (omega arith)) (by-edition _ _ _ _ (by-numbers _ refl))
 
 never-fine : (b : Bool) (v v′ : Verdict) → andThen (refuse b Edition (andThen v (Refused SlipLong))) v′ ≡ refuse b Edition (andThen v (Refused SlipLong))
 unfolding refuse andThen
@@ -50,19 +54,20 @@ never-fine true v v′ = refl
 never-fine false Fine v′ = refl
 never-fine false (Refused x) v′ = refl
 
-read-long : (bytes : List ℕ) → 260 ≤ length bytes → (count n : ℕ)
+read-long : (bytes : List ℕ) → longestSlip < length bytes → (count n : ℕ)
     → readVerdict bytes count n ≡ longVerdict (editionIn bytes) (widthIn bytes) (depthIn bytes) (dimensionIn bytes) (countIn bytes)
 unfolding readVerdict longVerdict
 read-long bytes long count n = rw (head-long bytes long) (never-fine _ _ _)
 
--- THE FIRST 260 BYTES DECIDE
-pub enough : (bytes : List ℕ) → 260 ≤ length bytes → (count n : ℕ) → readVerdict (take 260 bytes) count n ≡ readVerdict bytes count n
+-- THE FIRST 260 BYTES DECIDE: 259, and one more to tell that there is more
+pub enough : (bytes : List ℕ) → longestSlip < length bytes → (count n : ℕ) → readVerdict (take enoughBytes bytes) count n ≡ readVerdict bytes count n
+unfolding slipSize
 enough bytes long count n =
-    let first : 260 ≤ length (take 260 bytes) = omega (arith, length-take-le 260 bytes long) in
-    let h = head-kept 260 bytes (omega arith) long in
-    rw (read-long (take 260 bytes) first count n, read-long bytes long count n, h .edition, h .width, h .depth, h .dimension, h .count)
+    let first : longestSlip < length (take enoughBytes bytes) = omega (arith, length-take-le enoughBytes bytes (omega arith)) in
+    let h = head-kept enoughBytes bytes (omega arith) (omega arith) in
+    rw (read-long (take enoughBytes bytes) first count n, read-long bytes long count n, h .edition, h .width, h .depth, h .dimension, h .count)
 
-pub long-refused : (bytes : List ℕ) → 260 ≤ length bytes → (count n : ℕ) → readVerdict bytes count n ≡ Fine → ⊥
+pub long-refused : (bytes : List ℕ) → longestSlip < length bytes → (count n : ℕ) → readVerdict bytes count n ≡ Fine → ⊥
 unfolding longVerdict
 long-refused bytes long count n e = refused _ _ (sym (read-long bytes long count n) ∙ e)
   where

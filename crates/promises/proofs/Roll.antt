@@ -8,7 +8,7 @@ use lib.Dec.{eqb}
 use lib.ListN.{length, getD, take, drop, length-append}
 use lib.Seq.{take-all, take-append-seam, drop-append-seam}
 use borrow.Author.Tests.{eq-eqb, ne-eqb}
-use Rattle.defs.specs.Refusal.{refuse, andThen, answer}
+use Rattle.defs.specs.Refusal.{answer, kept}
 use Rattle.defs.specs.Slip.{slipSize, sizeIn}
 use Rattle.defs.specs.Write.{Written}
 use Rattle.defs.specs.Read.{firstVerdict, headVerdict}
@@ -56,6 +56,13 @@ pub refused-parts : (roll : List ℕ) (x : Refusal) → rollVerdict roll ≡ Ref
 unfolding firstPart restPart kept
 refused-parts roll x e = (rw e, rw e)
 
+rolls-same : (a b : List ℕ) → length a ≡ length b → firstVerdict a ≡ firstVerdict b → rollVerdict a ≡ rollVerdict b
+unfolding rollVerdict
+rolls-same [] [] l e = refl
+rolls-same (x ∷ s) (y ∷ t) l e = e
+rolls-same [] (y ∷ t) l e = absurd (omega arith)
+rolls-same (x ∷ s) [] l e = absurd (omega arith)
+
 -- THE HEADER DECIDES: rolls of one length with equal first three bytes have one answer and one size
 module _ (a b : List ℕ) (l : length a ≡ length b) (h : take 3 a ≡ take 3 b) where
   first-same : firstVerdict a ≡ firstVerdict b
@@ -73,14 +80,7 @@ module _ (a b : List ℕ) (l : length a ≡ length b) (h : take 3 a ≡ take 3 b
   by-verdict (Refused x) e e′ = ap length (none-found a x e ∙ sym (none-found b x e′))
 
   pub header-decides : (answer (rollVerdict a) 0 ≡ answer (rollVerdict b) 0) × (length (firstPart a) ≡ length (firstPart b))
-  header-decides = (ap (λ v. answer v 0) (rolls a b l first-same), by-verdict (firstVerdict b) first-same refl)
-    where
-      rolls : (a b : List ℕ) → length a ≡ length b → firstVerdict a ≡ firstVerdict b → rollVerdict a ≡ rollVerdict b
-      unfolding rollVerdict
-      rolls [] [] l e = refl
-      rolls (x ∷ s) (y ∷ t) l e = e
-      rolls [] (y ∷ t) l e = absurd (omega arith)
-      rolls (x ∷ s) [] l e = absurd (omega arith)
+  header-decides = (ap (λ v. answer v 0) (rolls-same a b l first-same), by-verdict (firstVerdict b) first-same refl)
 
 -- a slip is found in front of whatever stands behind it
 module _ (s t : List ℕ) (e : headVerdict s ≡ Fine) where

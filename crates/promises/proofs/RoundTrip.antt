@@ -10,7 +10,7 @@ use borrow.Author.Tests.{ltb-false}
 use Rattle.defs.specs.Place.{Symbols}
 use Rattle.defs.specs.Refusal.{answer, kept}
 use Rattle.defs.specs.Limits.{numbersVerdict, firstTwice, codeVerdict, Inside}
-use Rattle.defs.specs.Slip.{allBits, numberAt, headerBits, slipSize, slipBits, slipOf, editionIn, widthIn, depthIn, countIn, dimensionIn, symbolsIn, pointsIn, rowIn}
+use Rattle.defs.specs.Slip.{allBits, numberAt, slipSize, slipBits, slipOf, editionIn, widthIn, depthIn, countIn, dimensionIn, symbolsIn, pointsIn, rowIn}
 use Rattle.defs.specs.Write.{front, writeVerdict, Written}
 use Rattle.defs.specs.Read.{firstVerdict, headVerdict, readVerdict, Read}
 use Rattle.defs.specs.declared.Verdict.{Verdict}
@@ -20,7 +20,7 @@ use Rattle.defs.specs.declared.SlipRead.{SlipRead}
 use Rattle.theory.proofs.Place.{length-tab, tab-same, tab-getD}
 use Rattle.theory.proofs.Verdict.{apart, refuse-fine, then-fine}
 use Rattle.slip.specs.declared.Head.{Head}
-use Rattle.slip.specs.Head.{Fitting, Heads}
+use Rattle.slip.specs.Head.{headerBits, Fitting, Heads}
 use Rattle.slip.proofs.Bits.{number-symbol}
 use Rattle.slip.proofs.HeaderBits.{header-edition, header-width, header-depth, header-count, header-dimension}
 use Rattle.slip.proofs.Packed.{number-back, slip-bits-are, in-header, behind-header}
@@ -33,7 +33,7 @@ module _ (m r k : ℕ) (points w : List ℕ) where
   length-slip = length-tab _ _
 
   module _ (e : Inside m r k points) (h : Symbols m w) where
-    fits : Fitting m r k (length points)
+    fits : Fitting r k (length points)
     fits = inside-fits m r k points e
 
     -- a field of the header, and a symbol behind it

@@ -9,7 +9,7 @@ use lib.ListN.{length}
 use borrow.Author.Tests.{ne-eqb, le-ltb}
 use Rattle.defs.specs.Refusal.{numberOf, number, refuse, andThen, answer, kept}
 use Rattle.defs.specs.Limits.{deepest, numbersVerdict}
-use Rattle.defs.specs.Slip.{allBits, slipOf, depthIn}
+use Rattle.defs.specs.Slip.{allBits, longestSlip, slipOf, depthIn}
 use Rattle.defs.specs.Write.{writeVerdict, Written}
 use Rattle.defs.specs.Read.{firstVerdict, headVerdict, readVerdict, reading, Read}
 use Rattle.defs.specs.declared.Refusal.{Refusal}
@@ -63,7 +63,7 @@ read-refused {bytes} {points} {row} t e =
 
 -- ---- the size of a slip
 
-pub slip-top : (m r k : ℕ) (points w : List ℕ) (size : ℕ) → writeVerdict m r k points w size ≡ Fine → length (slipOf m r k points w) ≤ 259
+pub slip-top : (m r k : ℕ) (points w : List ℕ) (size : ℕ) → writeVerdict m r k points w size ≡ Fine → length (slipOf m r k points w) ≤ longestSlip
 slip-top m r k points w size e =
     let x = writable m r k points w size e in
     rw length-slip (size-top m (length points + length w) (inside-width m r k points (x .inside)) (few m r k points w (x .inside) (x .row)))

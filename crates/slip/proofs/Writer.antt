@@ -11,7 +11,7 @@ use Rattle.defs.specs.Place.{Symbols}
 use Rattle.defs.specs.Refusal.{refuse, andThen, answer, kept}
 use Rattle.defs.specs.Limits.{longest, codeVerdict, Inside}
 use Rattle.defs.specs.Encode.{symbolsVerdict}
-use Rattle.defs.specs.Slip.{slipSize, slipOf}
+use Rattle.defs.specs.Slip.{slipSize, longestSlip, slipOf}
 use Rattle.defs.specs.Write.{front, writeVerdict, Written}
 use Rattle.defs.specs.declared.Refusal.{Refusal}
 use Rattle.defs.specs.declared.Refusal.the-variants.{Length}
@@ -31,7 +31,7 @@ module _ (m r k : ℕ) (points : List ℕ) (e : Inside m r k points) where
   pub inside-width : Width m
   inside-width = inside-known m r k points e .numbers .width
 
-  pub inside-fits : Fitting m r k (length points)
+  pub inside-fits : Fitting r k (length points)
   inside-fits = fitting m r k (length points) (inside-known m r k points e .numbers)
 
   pub inside-symbols : (w : List ℕ) → Symbols m w → Symbols m (points ++ w)
@@ -84,8 +84,8 @@ few m r k points w e l =
     let n = inside-known m r k points e .numbers in
     omega (arith, count-small n, n .row-top)
 
--- a slip has at most 259 bytes
-pub size-top : (m symbols : ℕ) → Width m → symbols ≤ 2 * longest → slipSize m symbols ≤ 259
+-- no slip is longer than the longest
+pub size-top : (m symbols : ℕ) → Width m → symbols ≤ 2 * longest → slipSize m symbols ≤ longestSlip
 unfolding slipSize
 size-top m symbols w l = omega (arith, mul-le-mul {n₁ = symbols} {m₁ = m} {n₂ = 256} {m₂ = 8} l (width-top m w))
 

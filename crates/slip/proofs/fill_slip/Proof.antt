@@ -4,7 +4,7 @@ use mathlib.Core.Path.{_≡_, refl, ap, _∙_}
 use native.Mathlib.Omega.{arith}
 use lib.ListN.{length, length-set}
 use borrow.Author.Needs.{needs}
-use Rattle.defs.specs.Slip.{numberAt, slipBits}
+use Rattle.defs.specs.Slip.{numberAt, slipBits, slipSize}
 use Rattle.theory.specs.Fill.{filled}
 use Rattle.theory.proofs.Fill.{filled-none, filled-next}
 use Rattle.slip.proofs.Front.{slip-filled}
@@ -21,6 +21,7 @@ loop-holds : tie.Need-loop-holds Inv-loop μ-loop
 loop-holds c = (omega arith, refl, filled-none _ _ _)
 
 slip-byte-requires : tie.Need-slip-byte-requires Inv-loop μ-loop
+unfolding slipSize
 slip-byte-requires c κs =
     let pre = c .before .before .before .before .before .pre in
     (pre .0, pre .1, omega (arith, pre .3))
