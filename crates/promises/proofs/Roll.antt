@@ -136,16 +136,17 @@ some-fine roll (Refused x) e n = absurd (n (ap length (none-found roll x e)))
 -- what holds at the end and is kept by a slip found holds of the walk: so many turns as there are bytes are enough
 module _ (P : List ℕ → Walk → Type 0) (end : (roll : List ℕ) → length (firstPart roll) ≡ 0 → P roll (walkEnd roll))
     (on : (roll : List ℕ) (w : Walk) → firstVerdict roll ≡ Fine → P (restPart roll) w → P roll (walkOn (firstPart roll) w)) where
+  one-turn : (t : ℕ) (roll : List ℕ) → length roll ≤ suc t → (length (restPart roll) ≤ t → P (restPart roll) (walkFor t (restPart roll)))
+      → Dec (length (firstPart roll) ≡ 0) → P roll (walkFor (suc t) roll)
+  one-turn t roll l h (yes e) = rw (step-end t roll e) (end roll e)
+  one-turn t roll l h (no n) =
+      rw (step-on t roll n)
+      (on roll (walkFor t (restPart roll)) (some-fine roll _ refl n) (h (omega (arith, length-append (firstPart roll) (restPart roll), ap length (parts-join roll)))))
+
   walk-by : (t : ℕ) (roll : List ℕ) → length roll ≤ t → P roll (walkFor t roll)
   unfolding walkFor
   walk-by zero roll l = end roll (omega (arith, first-within roll))
-  walk-by (suc t) roll l = go (ℕ-discrete (length (firstPart roll)) 0)
-    where
-      go : Dec (length (firstPart roll) ≡ 0) → P roll (walkFor (suc t) roll)
-      go (yes e) = rw (step-end t roll e) (end roll e)
-      go (no n) =
-          let less : length (restPart roll) ≤ t = omega (arith, length-append (firstPart roll) (restPart roll), ap length (parts-join roll)) in
-          rw (step-on t roll n) (on roll (walkFor t (restPart roll)) (some-fine roll _ refl n) (walk-by t (restPart roll) less))
+  walk-by (suc t) roll l = one-turn t roll l (λ less. walk-by t (restPart roll) less) (ℕ-discrete (length (firstPart roll)) 0)
 
 -- each is the first slip of the roll from it on, and left stands behind the last one
 abbrev pub Firsts : List (List ℕ) → List ℕ → List ℕ → Type 0
@@ -185,11 +186,32 @@ whole-walk : (slips : List (List ℕ)) → ((i : ℕ) → i < length slips → h
 unfolding joined walkEnd walkOn walkFor rollVerdict
 whole-walk [] h zero l = refl
 whole-walk [] h (suc t) l = step-end t [] (omega (arith, first-within []))
-whole-walk (s ∷ slips) h t l = ?
+whole-walk (s ∷ slips) h zero l = absurd (omega (arith, alone s [] (h 0 (omega arith)) .long, length-append s (joined slips)))
+whole-walk (s ∷ slips) h (suc t) l =
+    let e = h 0 (omega arith) in
+    let p = front-first s (joined slips) e in
+    let q = front-rest s (joined slips) e in
+    let some : 3 ≤ length s = alone s [] e .long in
+    step-on t (s ++ joined slips) (λ z. omega (arith, ap length p))
+    ∙ rw (p, q, whole-walk slips (λ i b. h (suc i) (omega arith)) t (omega (arith, length-append s (joined slips))))
 
 -- bytes that the writer left, where it was done
 pub record Made (s : List ℕ) : Type 0 where
-  pub m r k d : ℕ
-  pub points w bytes bytes′ : List ℕ
+  pub m : ℕ
+  pub r : ℕ
+  pub k : ℕ
+  pub d : ℕ
+  pub points : List ℕ
+  pub w : List ℕ
+  pub bytes : List ℕ
+  pub bytes′ : List ℕ
   pub written : Written m r k points w bytes (Done d) bytes′
   pub is : s ≡ take d bytes′
+
+made-whole : (s : List ℕ) → Made s → headVerdict s ≡ Fine
+made-whole s x = rw (x .is) (written-whole (x .m) (x .r) (x .k) (x .d) (x .points) (x .w) (x .bytes) (x .bytes′) (x .written))
+
+-- A ROLL THAT THE WRITER MADE IS TAKEN APART INTO EXACTLY THE SLIPS WRITTEN, AND IS DONE
+pub made-walk : (slips : List (List ℕ)) → ((i : ℕ) → i < length slips → Made (getD slips i [])) → walk (joined slips) ≡ record { slips = slips; left = []; ended = Fine }
+unfolding walk
+made-walk slips h = whole-walk slips (λ i l. made-whole _ (h i l)) (length (joined slips)) (omega arith)
