@@ -26,7 +26,8 @@ use Rattle.theory.proofs.Width.{field-top}
 use Rattle.theory.proofs.Verdict.{apart, then-fine}
 use Rattle.line.specs.Text.{room, Wrote, RowText}
 use Rattle.line.proofs.Lengths.{refused-short, done-short}
-use Rattle.line.proofs.Slips.{inside, refused-place}
+use Rattle.slip.proofs.Taken.{inside}
+use Rattle.line.proofs.Slips.{refused-place}
 
 depth-low : (r count : ℕ) (u w : List ℕ) → r ≤ 8 → (i : ℕ) → getD (depths r count u w) i 0 < 10
 unfolding depths damage
@@ -100,4 +101,4 @@ row-text {t = t} {old = old} {new = new} ready e wrote = record {
 
 pub line-short : (bytes text : List ℕ) → Line bytes text → length text ≤ room
 line-short bytes text (L.refused x e q) = rw q (refused-short x (refused-place bytes x e))
-line-short bytes text (L.read e row) = row-short _ _ _ _ _ (inside bytes e) text row
+line-short bytes text (L.read e row) = row-short _ _ _ _ _ (inside bytes _ _ e) text row

@@ -3,8 +3,7 @@ use Prim.Native.Nat.{ℕ, _≤_}
 use mathlib.Core.Path.{_≡_, refl, ap, _∙_}
 use mathlib.Core.List.{List}
 use native.Mathlib.Omega.{arith}
-use lib.ListN.{length, take, drop, length-append}
-use lib.Seq.{take-at}
+use lib.ListN.{length, drop, length-append}
 use Rattle.defs.specs.Refusal.{kept}
 use Rattle.defs.specs.Limits.{longest}
 use Rattle.defs.specs.Slip.{pointsIn, rowIn}
@@ -19,16 +18,14 @@ use Rattle.defs.specs.declared.SlipRead.{SlipRead}
 use Rattle.theory.proofs.Limits.{count-small}
 use Rattle.theory.proofs.Verdict.{apart}
 use Rattle.line.specs.Text.{room, Wrote, Taken, SlipText, Text}
-use Rattle.line.proofs.Slips.{length-points, length-row, numbers, decodable, refused-place}
+use Rattle.slip.proofs.Front.{take-front}
+use Rattle.slip.proofs.Taken.{length-points, length-row, read-sound, decodable}
+use Rattle.line.proofs.Slips.{refused-place}
 use Rattle.line.proofs.Lengths.{refused-short}
 
 length-front : (new old : List ℕ) → length new ≤ length (front new old)
 unfolding front
 length-front new old = omega (arith, length-append new (drop (length new) old))
-
-take-front : (new old : List ℕ) (n : ℕ) → length new ≡ n → take n (front new old) ≡ new
-unfolding front
-take-front new old n e = take-at new (drop (length new) old) n e
 
 answer-refused : (v : Verdict) (bytes : List ℕ) (x : Refusal) → reading v bytes .answer ≡ No x → v ≡ Refused x
 unfolding reading
@@ -76,12 +73,12 @@ module _ (bytes points row points′ row′ : List ℕ) (s : SlipRead) (points-r
     pub taken : (n : ℕ) → n ≡ room → Taken s points′ row′ n
     unfolding reading
     taken n enough = rw (s-is, points-are, row-is) record {
-      k-top = omega (arith, numbers bytes (was-fine d done) .k-top, numbers bytes (was-fine d done) .row-top);
-      count-top = count-small (numbers bytes (was-fine d done));
+      k-top = omega (arith, read-sound bytes _ _ (was-fine d done) .numbers .k-top, read-sound bytes _ _ (was-fine d done) .numbers .row-top);
+      count-top = count-small (read-sound bytes _ _ (was-fine d done) .numbers);
       points-in = omega (arith, length-points bytes, length-front (pointsIn bytes) points);
       row-in = omega (arith, length-row bytes, length-front (rowIn bytes) row);
       decodable = record {
-        fine = rw (take-front _ points _ (length-points bytes), take-front _ row _ (length-row bytes)) (decodable bytes (was-fine d done));
+        fine = rw (take-front _ points _ (length-points bytes), take-front _ row _ (length-row bytes)) (decodable bytes _ _ (was-fine d done));
         enough = enough;
       };
     }

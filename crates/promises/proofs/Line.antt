@@ -16,7 +16,7 @@ use Rattle.defs.specs.declared.Answer.the-variants.{Done, Refused as No}
 use Rattle.theory.proofs.Demand3.{near-unique}
 use Rattle.theory.proofs.Verdict.{apart}
 use Rattle.line.specs.Text.{room}
-use Rattle.line.proofs.Slips.{inside}
+use Rattle.slip.proofs.Taken.{inside}
 use Rattle.line.proofs.Lines.{line-short}
 
 row-unique : (m r k : ℕ) (points w t t′ : List ℕ) → Inside m r k points → RowLine m r k points w t → RowLine m r k points w t′ → t ≡ t′
@@ -29,7 +29,7 @@ pub line-unique : (bytes t t′ : List ℕ) → Line bytes t → Line bytes t′
 line-unique bytes t t′ (refused x v e) (refused y v′ e′) = cc
 line-unique bytes t t′ (refused x v e) (read v′ row) = absurd (apart cc)
 line-unique bytes t t′ (read v row) (refused x v′ e) = absurd (apart cc)
-line-unique bytes t t′ (read v row) (read v′ row′) = row-unique _ _ _ _ _ t t′ (inside bytes v) row row′
+line-unique bytes t t′ (read v row) (read v′ row′) = row-unique _ _ _ _ _ t t′ (inside bytes _ _ v) row row′
 
 pub lined-unique : (bytes buffer : List ℕ) (a a′ : Answer) (b b′ : List ℕ) → Lined bytes buffer a b → Lined bytes buffer a′ b′ → (a ≡ a′) × (b ≡ b′)
 lined-unique bytes buffer a a′ b b′ u v =
