@@ -1,13 +1,12 @@
 // Reads a roll of any length from standard input and prints the line of each slip found. Where a refusal ends the walk, its
 // line is the last one. The buffer is read full, walked, and what is left of it moved to its front before the next turn.
 ghost use Prim.Native.Nat.{_≤_};
-ghost use mathlib.Core.Path.{_≡_};
 ghost use lib.ListN.{length};
 use slip::LONGEST_SLIP;
 
-// Where a walk over a buffer stands: how many bytes at its front are still to be walked, and whether it is over.
+// Where a walk stands: at so many bytes, and over or not.
 pub struct Standing {
-    left: usize,
+    at: usize,
     is_over: bool,
 }
 
@@ -22,8 +21,8 @@ fn print_first(roll: &[u8]) -> usize
     n
 }
 
-// Prints the lines of the slips whose end is in sight: more of the roll may follow unless this part is its last. Answers
-// where it stopped.
+// Prints the lines of the slips whose end is in sight: of a part that is not the roll's last, more may follow. Answers where
+// it stopped.
 fn print_slips(part: &[u8], is_last: bool) -> usize
     ensures { λ at. ⌜ at ≤ length (now (part .entry)) ⌝ }
 {
@@ -38,40 +37,39 @@ fn print_slips(part: &[u8], is_last: bool) -> usize
     at
 }
 
-// Moves what stands from at on to the front.
-fn to_front(buf: &mut [u8], at: usize, n: usize)
-    requires { ⌜ n ≤ length (now buf) ⌝ }
-    ensures { λ _. ⌜ length (now (buf .exit)) ≡ length (now (buf .entry)) ⌝ }
+// Walks a part of the roll. Where no more can be found the walk is over, and what is left is refused, or nothing is left.
+fn walk_part(part: &[u8], is_last: bool) -> Standing
+    ensures { λ s. ⌜ s .at ≤ length (now (part .entry)) ⌝ }
 {
-    let mut i = at;
-    while i < n {
-        buf[i - at] = buf[i];
-        i += 1;
+    let at = print_slips(part, is_last);
+    if !is_last && part.len() - at < LONGEST_SLIP {
+        return Standing { at, is_over: false };
     }
+    if at < part.len() {
+        printing::print_line(&part[at..]);
+    }
+    Standing { at, is_over: true }
 }
 
-// One turn: fills the buffer behind the bytes that are left, and walks it.
-fn walk_part(buf: &mut [u8], left: usize) -> Standing
+// Fills the buffer behind the bytes that are left, and answers how many it then has.
+fn fill(buf: &mut [u8], left: usize) -> usize
     requires { ⌜ left ≤ length (now buf) ⌝ }
-    ensures { λ s. ⌜ s .left ≤ length (now (buf .exit)) ⌝ }
+    ensures { λ n. ⌜ n ≤ length (now (buf .exit)) ⌝ }
 {
-    let n = left + io::read_full(0, &mut buf[left..]);
-    let is_last = n < buf.len();
-    let at = print_slips(&buf[..n], is_last);
-    if is_last || LONGEST_SLIP <= n - at {
-        if at < n {
-            printing::print_line(&buf[at..n]);
-        }
-        return Standing {
-            left: 0,
-            is_over: true,
-        };
+    left + io::read_full(0, &mut buf[left..])
+}
+
+// Moves the bytes from at to n to the front, and answers how many they are.
+fn to_front(buf: &mut [u8], at: usize, n: usize) -> usize
+    requires { ⌜ n ≤ length (now buf) ⌝ }
+    ensures { λ left. ⌜ left ≤ length (now (buf .exit)) ⌝ }
+{
+    let mut left = 0;
+    while at < n - left {
+        buf[left] = buf[at + left];
+        left += 1;
     }
-    to_front(buf, at, n);
-    Standing {
-        left: n - at,
-        is_over: false,
-    }
+    left
 }
 
 // A proved loop has to end, and nothing says that an input does. So it counts its turns down, from a number that no run
@@ -80,11 +78,13 @@ fn walk_all(buf: &mut [u8]) {
     let mut left = 0;
     let mut turns = u64::MAX;
     while turns > 0 {
-        let s = walk_part(buf, left);
+        let n = fill(buf, left);
+        let is_last = n < buf.len();
+        let s = walk_part(&buf[..n], is_last);
         if s.is_over {
             return;
         }
-        left = s.left;
+        left = to_front(buf, s.at, n);
         turns -= 1;
     }
 }
