@@ -32,7 +32,7 @@ pub fn compare(count: u64, seed: u64) -> Verdict {
     if missing.is_empty() {
         return Verdict::Agree;
     }
-    println!("compare: no call differs, but so few cases do not meet what a gate asks for:");
+    println!("compare: that is no fault of the archive, but too few cases to meet these quotas:");
     for complaint in &missing {
         println!("compare: {complaint}");
     }
