@@ -1,7 +1,6 @@
 // Arithmetic of the fields with 4, 16 and 256 elements, and the parities of binomials as a table.
 mod tables;
 
-pub use tables::PARITIES;
 use tables::ELEMENTS;
 use tables::ELEMENTS4;
 use tables::ELEMENTS16;
@@ -11,6 +10,7 @@ use tables::EXP16;
 use tables::LOG;
 use tables::LOG4;
 use tables::LOG16;
+pub use tables::PARITIES;
 use tables::PARITY;
 use tables::POWERS;
 use tables::POWERS4;
