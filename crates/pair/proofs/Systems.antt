@@ -5,18 +5,17 @@ use mathlib.Core.Logic.{⊎-elim}
 use mathlib.Core.List.{List}
 use native.Mathlib.Nat.{le-antisymm, suc-mul, add-mul, mul-comm, mul-le-mul-right}
 use native.Mathlib.Omega.{arith}
-use lib.ListN.{length, getD, take, drop, length-take, length-drop, replicate, length-replicate, getD-replicate, List·getD-eq-default}
+use lib.ListN.{length, getD, take, drop, length-take, length-drop, List·getD-eq-default}
 use lib.Seq.{getD-take, getD-drop}
 use lib.Pow.{pow-pos}
 use Rattle.defs.specs.Field.{Width}
 use Rattle.defs.specs.Place.{Symbols}
 use Rattle.defs.specs.declared.Code.{Code}
 use Rattle.theory.specs.Limits.{Numbers}
+use Rattle.theory.proofs.Order.{eq-or-not, lt-or-le, eq-lt}
 use Rattle.theory.proofs.Limits.{inside-known}
 use Rattle.code.specs.Checked.{pointsOf, IsCode}
 use Rattle.solve.specs.Table.{stride, tableSize, at, Shape}
-use Rattle.solve.proofs.Sums.{eq-or-not, lt-or-le}
-use Rattle.solve.proofs.Free.{eq-lt}
 use Rattle.pair.specs.Equation.{Equation}
 use Rattle.pair.specs.Fill.{look, Chunk, System}
 use Rattle.pair.proofs.Chunks.{mixed-same}
@@ -31,13 +30,6 @@ pub code-point : {c : Code} → IsCode c → (i : ℕ) → i < c .count → getD
 code-point {c} C i l = sym (getD-take (c .count) (c .points) i 0 l)
 
 -- a table of zeros
-pub getD-zeros : (n k : ℕ) → getD (replicate {A = ℕ} n 0) k 0 ≡ 0
-getD-zeros n k =
-    ⊎-elim
-    (λ l. getD-replicate n k 0 0 l)
-    (λ (l : n ≤ k). List·getD-eq-default (replicate {A = ℕ} n 0) 0 (omega (arith, length-replicate {A = ℕ} n 0)))
-    (lt-or-le k n)
-
 pub zero-shape : {m : ℕ} (t : List ℕ) → Width m → length t ≡ tableSize → ((k : ℕ) → getD t k 0 ≡ 0) → Shape m t
 zero-shape {m} t w n z = record { width = w; size = n; symbols = λ k. eq-lt (z k) (pow-pos m) }
 

@@ -4,10 +4,10 @@ use mathlib.Core.Path.{refl}
 use native.Mathlib.Nat.{lt-of-lt-of-le}
 use native.Mathlib.Omega.{arith}
 use lib.ListN.{length}
+use Rattle.theory.proofs.Place.{zeros-zero}
 use Rattle.solve.specs.Table.{stride, tableSize, at}
 use Rattle.solve.specs.Answer.{IsFree}
 use Rattle.solve.proofs.Free.{told}
-use Rattle.pair.proofs.Systems.{getD-zeros}
 use Rattle.pair.proofs.Outcome.{Sizes, enough, short, sizes, found-pair, found-none}
 use borrow.Author.Needs.{needs}
 use Rattle.pair.proofs.find_pair.Statement.{statement}
@@ -54,7 +54,7 @@ add-s1 c = omega (arith, fitting c .top₁)
 write-system-requires : tie.Need-write-system-requires
 write-system-requires c κs =
     let b = c .before in
-    (start b .pre .0, (start b .pre .1, ((refl, fitting b .small, fitting b .fits), getD-zeros tableSize)))
+    (start b .pre .0, (start b .pre .1, ((refl, fitting b .small, fitting b .fits), zeros-zero tableSize)))
 
 add-eliminate : tie.Need-add-eliminate
 add-eliminate c = omega (arith, fitting (c .before .before .before) .fits)

@@ -4,10 +4,10 @@ use mathlib.Core.Path.{_≡_, _∙_}
 use native.Mathlib.Omega.{arith}
 use lib.ListN.{length, getD}
 use Rattle.theory.specs.Limits.{Numbers}
+use Rattle.theory.proofs.Order.{eq-lt}
 use Rattle.theory.proofs.Limits.{count-small}
 use Rattle.code.specs.Checked.{pointsOf}
 use Rattle.solve.specs.Table.{stride}
-use Rattle.solve.proofs.Free.{eq-lt}
 use Rattle.pair.specs.Fill.{System}
 use Rattle.pair.proofs.Systems.{code-numbers, code-symbols, code-point, zero-shape, chunk-fits, chunk-next, part-length, part-symbols, system-none, system-more, system-all}
 use borrow.Author.Needs.{needs}
