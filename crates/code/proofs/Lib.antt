@@ -2,3 +2,4 @@
 pub mod Search
 pub mod Numbers
 pub mod Outcome
+pub mod Known
