@@ -1,4 +1,4 @@
--- The equations of all chunks, one chunk after another, and the numbers of a checked code behind them.
+-- The equations of all chunks, one chunk after another.
 use Prim.Native.Nat.{ℕ, _+_, _*_, _-_, _<_, _≤_}
 use mathlib.Core.Path.{_≡_, refl, ap, sym, subst, _∙_}
 use mathlib.Core.Logic.{⊎-elim}
@@ -10,25 +10,12 @@ use lib.Seq.{getD-take, getD-drop}
 use lib.Pow.{pow-pos}
 use Rattle.defs.specs.Field.{Width}
 use Rattle.defs.specs.Place.{Symbols}
-use Rattle.defs.specs.declared.Code.{Code}
-use Rattle.theory.specs.Limits.{Numbers}
-use Rattle.theory.proofs.Limits.{inside-known}
-use Rattle.code.specs.Checked.{pointsOf, IsCode}
 use Rattle.solve.specs.Table.{stride, tableSize, at, Shape}
 use Rattle.solve.proofs.Sums.{eq-or-not, lt-or-le}
 use Rattle.solve.proofs.Free.{eq-lt}
 use Rattle.pair.specs.Equation.{Equation}
 use Rattle.pair.specs.Fill.{look, Chunk, System}
 use Rattle.pair.proofs.Chunks.{mixed-same}
-
-pub code-numbers : {c : Code} → IsCode c → Numbers (c .m) (c .r) (c .k) (c .count)
-code-numbers {c} C = subst (λ (n : ℕ). Numbers (c .m) (c .r) (c .k) n) (C .counted) (inside-known _ _ _ (pointsOf c) (C .inside) .numbers)
-
-pub code-symbols : {c : Code} → IsCode c → Symbols (c .m) (pointsOf c)
-code-symbols {c} C = inside-known _ _ _ (pointsOf c) (C .inside) .symbols
-
-pub code-point : {c : Code} → IsCode c → (i : ℕ) → i < c .count → getD (c .points) i 0 ≡ getD (pointsOf c) i 0
-code-point {c} C i l = sym (getD-take (c .count) (c .points) i 0 l)
 
 -- a table of zeros
 pub getD-zeros : (n k : ℕ) → getD (replicate {A = ℕ} n 0) k 0 ≡ 0
