@@ -2,7 +2,7 @@
 use Prim.Native.Nat.{ℕ, _*_, _^_, _<_, _≤_}
 use mathlib.Core.Path.{_≡_, refl, ap, sym, _∙_}
 use mathlib.Core.List.{List, _++_, append-nil}
-use native.Mathlib.Nat.{mul-comm}
+use native.Mathlib.Nat.{mul-comm, mul-le-mul-right}
 use native.Mathlib.Decide.{decLt}
 use native.Mathlib.Omega.{arith}
 use lib.ListN.{length, getD, take, drop, length-take, length-drop, length-append, drop-of-length-le, List·getD-eq-default}
@@ -77,13 +77,14 @@ measured r count u w depth now i h l e t f =
 pub message-top : {m r k count : ℕ} → Numbers m r k count → k ≤ longest
 message-top N = omega (arith, N .k-top, N .row-top)
 
--- a row that stands at the front of an array, and another, both of n symbols
-pub rows-front : {m r k count : ℕ} → Numbers m r k count → (u w : List ℕ) (n : ℕ) → n ≡ r * count → length w ≡ n → length u ≡ longest → Rows r count (take n u) w
-rows-front {m} {r} {k} {count} N u w n e f g =
-    let s : count * r ≡ n = mul-comm count r ∙ sym e in
+-- a row that stands at the front of an array, and another, both of n symbols: any of their first chunks
+pub rows-front : {m r k count : ℕ} → Numbers m r k count → (u w : List ℕ) (n : ℕ) → n ≡ r * count → length w ≡ n → length u ≡ longest
+    → (some : ℕ) → some ≤ count → Rows r some (take n u) w
+rows-front {m} {r} {k} {count} N u w n e f g some l =
+    let s : some * r ≤ n = omega (arith, mul-le-mul-right r l, mul-comm count r) in
     record {
       depth = N .r-top;
-      few = count-small N;
+      few = omega (arith, count-small N);
       left = omega (arith, length-take-le n u (omega (arith, N .row-top)));
       right = omega arith;
     }
@@ -167,8 +168,8 @@ module _ {m r k : ℕ} {points w message depth : List ℕ} {c : Code} (x : Admit
     symbols = rw (x .passed .m-is) (facts .4);
   }
 
-  pub rows-measured : (u : List ℕ) → length u ≡ longest → Rows r (length points) (take (r * length points) u) w
-  rows-measured u e = rows-front numbers u w (r * length points) refl (facts .1) e
+  pub rows-measured : (some : ℕ) → some ≤ length points → (u : List ℕ) → length u ≡ longest → Rows r some (take (r * length points) u) w
+  rows-measured some l u e = rows-front numbers u w (r * length points) refl (facts .1) e some l
 
   near-is : (f : List ℕ) → Near (c .m) (c .r) (c .k) (pointsOf c) w f → Near m r k points w f
   near-is f near = rw (x .passed .m-is, x .passed .r-is, x .passed .k-is, x .passed .points-are) at near

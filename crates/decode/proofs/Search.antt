@@ -123,4 +123,4 @@ module _ {c : Code} {w : List ℕ} (is : IsCode c) (row : IsRow c w) where
       )
 
   pub rows-ready : (f u : List ℕ) → Sent c f (length w) u → Rows (c .r) (c .count) (take (length w) u) w
-  rows-ready f u sent = rows-front (code-numbers is) u w (length w) (row .size) refl (sent .long)
+  rows-ready f u sent = rows-front (code-numbers is) u w (length w) (row .size) refl (sent .long) (c .count) (omega arith)

@@ -3,7 +3,6 @@ use Prim.Native.Nat.{_≤_}
 use mathlib.Core.Path.{_≡_, sym, _∙_}
 use native.Mathlib.Omega.{arith}
 use lib.ListN.{length, length-take}
-use lib.Seq.{length-take-le}
 use borrow.Author.Needs.{needs}
 use Rattle.defs.specs.Limits.{longest, codeVerdict, Inside}
 use Rattle.defs.specs.declared.Verdict.the-variants.{Fine}
@@ -126,7 +125,7 @@ array-share-prefix-found : tie.Need-array-share-prefix-found
 array-share-prefix-found c = let f = c .before .before in omega (arith, k-fits f, arrays f .0)
 
 slice-aggregate-copy : tie.Need-slice-aggregate-copy
-slice-aggregate-copy c = let f = c .before .before .before in sym (length-take-le _ _ (omega (arith, k-fits f, arrays f .0)))
+slice-aggregate-copy c = let f = c .before .before .before in simp length-take (omega (arith, k-fits f, arrays f .0))
 
 copy-requires : tie.Need-copy-requires
 copy-requires c κs = simp length-take (omega (arith, room (admitted (taken (sought (found c)))) .0))
@@ -137,16 +136,13 @@ array-share-prefix-sent c = omega (arith, sizes (code (sought (near c))) .row-to
 slice-aggregate-write-depths : tie.Need-slice-aggregate-write-depths
 slice-aggregate-write-depths c =
     let f = near (c .before) in
-    sym (length-take-le _ _ (omega (arith, sizes (code (sought f)) .row-top, arrays f .1)))
+    simp length-take (omega (arith, sizes (code (sought f)) .row-top, arrays f .1))
 
 write-depths-requires : tie.Need-write-depths-requires
 write-depths-requires c κs =
     let f = near (c .before .before) in
     let x = admitted (taken (sought f)) in
-    let b = rows-measured x (sought f .seek .result .row) (arrays f .1) in (
-      record { depth = b .depth; few = omega (arith, b .few); left = omega (arith, b .left); right = omega (arith, b .right) },
-      omega (arith, room x .1),
-    )
+    (rows-measured x _ (omega arith) _ (omega (arith, arrays f .1)), omega (arith, room x .1))
 
 same-length : tie.Need-same-length
 same-length c = search needs
