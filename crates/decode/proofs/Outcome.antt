@@ -35,7 +35,6 @@ use Rattle.code.specs.Checked.{pointsOf}
 use Rattle.code.proofs.Outcome.{Passed}
 use Rattle.code.proofs.Known.{code-numbers}
 use Rattle.rows.specs.Chunk.{Rows, Writable}
-use Rattle.rows.proofs.Measure.{damage-le}
 use Rattle.pair.specs.Found.{IsRow}
 use Rattle.decode.specs.declared.Sought.{Sought}
 use Rattle.decode.specs.Search.{restVerdict, Candidate, Sent, IsSought, within, beyond, Measured}
@@ -58,9 +57,6 @@ module _ (m n k count : ℕ) (w : List ℕ) (size deep : ℕ) where
       pub rest-symbols : deep ≡ count → (v : Verdict) → v ≡ symbolsVerdict m w → v ≡ restVerdict m n k count w size deep
       unfolding restVerdict refuse
       rest-symbols e″ v h = rw (eq-eqb (length w) n e, eq-eqb size k e′, eq-eqb deep count e″) h
-
-pub damage-top : (r : ℕ) (u w : List ℕ) (i d : ℕ) → d ≡ damage r u w i → d ≤ r
-damage-top r u w i d e = omega (arith, damage-le r u w i)
 
 -- the end of the loop that writes the depths
 pub measured : (r count : ℕ) (u w depth now : List ℕ) (i : ℕ) → i ≤ count → count ≤ i → now ≡ filled depth 0 (damage r u w) i

@@ -5,7 +5,6 @@ use native.Mathlib.Omega.{arith}
 use lib.ListN.{length, length-take}
 use borrow.Author.Needs.{needs}
 use Rattle.defs.specs.Limits.{longest, codeVerdict, Inside}
-use Rattle.defs.specs.declared.Verdict.the-variants.{Fine}
 use Rattle.theory.specs.Limits.{Numbers}
 use Rattle.theory.proofs.Limits.{inside-known}
 use Rattle.code.proofs.Outcome.{verdict-is, code-passed}

@@ -1,6 +1,5 @@
 -- `decode::row_of` meets its contract: what is written stands at the front of the array.
 use mathlib.Core.Path.{refl, sym}
-use native.Mathlib.Omega.{arith}
 use lib.Seq.{length-take-le}
 use Rattle.decode.proofs.Outcome.{row-short, message-within, writable, sent-front}
 use Rattle.decode.proofs.row_of.Statement.{statement}

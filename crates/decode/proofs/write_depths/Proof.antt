@@ -1,5 +1,5 @@
 -- `decode::write_depths` meets its contract: the depths of the first i chunks are written and added up.
-use Prim.Native.Nat.{_*_, _-_, _<_, _≤_}
+use Prim.Native.Nat.{_*_, _-_, _≤_}
 use mathlib.Core.Path.{_≡_, refl}
 use borrow.Author.Needs.{needs}
 use native.Mathlib.Omega.{arith}
@@ -8,8 +8,8 @@ use Rattle.defs.specs.Distance.{damage, distance}
 use Rattle.defs.specs.Limits.{deepest}
 use Rattle.theory.specs.Fill.{filled}
 use Rattle.theory.proofs.Fill.{filled-none, filled-next}
-use Rattle.rows.proofs.Measure.{chunk-within, distance-none, distance-more}
-use Rattle.decode.proofs.Outcome.{damage-top, measured}
+use Rattle.rows.proofs.Measure.{chunk-within, damage-top, distance-none, distance-more}
+use Rattle.decode.proofs.Outcome.{measured}
 use Rattle.decode.proofs.write_depths.Statement.{statement}
 use Rattle.decode.proofs.write_depths.Tie as tie
 
