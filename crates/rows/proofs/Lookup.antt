@@ -21,7 +21,7 @@ use Rattle.field.specs.Arithmetic.{Logarithm, Element}
 use Rattle.code.specs.Checked.{zeros}
 use Rattle.code.proofs.Outcome.{length-zeros}
 use Rattle.theory.proofs.Width.{field-top}
-use Rattle.rows.proofs.Chunks.{new-front, old-behind}
+use Rattle.code.proofs.Chunks.{new-front, old-behind}
 use Rattle.rows.specs.Tables.{nowhere, places, LogOf, PowersOf, LogsFor, LogsOf}
 
 -- what stands in a list whose front has been filled
