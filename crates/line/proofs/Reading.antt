@@ -3,8 +3,7 @@ use Prim.Native.Nat.{ℕ, _≤_}
 use mathlib.Core.Path.{_≡_, refl, ap, sym, _∙_}
 use mathlib.Core.List.{List, []}
 use native.Mathlib.Omega.{arith}
-use lib.ListN.{length, take, drop, length-append}
-use lib.Seq.{take-at}
+use lib.ListN.{length, drop, length-append}
 use Rattle.defs.specs.Refusal.{answer, kept}
 use Rattle.defs.specs.Limits.{longest}
 use Rattle.defs.specs.Slip.{pointsIn, rowIn}
@@ -18,10 +17,11 @@ use Rattle.defs.specs.declared.Verdict.the-variants.{Fine, Refused}
 use Rattle.defs.specs.declared.Answer.{Answer}
 use Rattle.defs.specs.declared.Answer.the-variants.{Done, Refused as No}
 use Rattle.defs.specs.declared.SlipRead.{SlipRead}
-use Rattle.slip.proofs.Reader.{points-few}
+use Rattle.slip.proofs.Front.{take-front}
+use Rattle.slip.proofs.Taken.{length-points, length-row, read-sound}
+use Rattle.theory.proofs.Limits.{count-small}
 use Rattle.theory.proofs.Verdict.{answer-done, answer-refused}
 use Rattle.line.specs.Text.{room, Wrote, Roomy, RowText, Taken, SlipText, Text}
-use Rattle.line.proofs.Slips.{length-points, length-row, read-sound}
 use Rattle.line.proofs.Lines.{row-short, line-short}
 
 -- ---- the decoder
@@ -58,10 +58,6 @@ row-text {t = t} {old = old} enough row wrote = record {
 length-front : (new old : List ℕ) → length new ≤ length (front new old)
 unfolding front
 length-front new old = omega (arith, length-append new (drop (length new) old))
-
-take-front : (new old : List ℕ) (n : ℕ) → length new ≡ n → take n (front new old) ≡ new
-unfolding front
-take-front new old n e = take-at new (drop (length new) old) n e
 
 -- the reader's answer is that of its checks
 pub reading-answer : (v : Verdict) (bytes : List ℕ) → reading v bytes .answer ≡ answer v 0
@@ -114,7 +110,7 @@ module _ (bytes points row points′ row′ : List ℕ) (s : SlipRead) (points-r
         let sound = read-sound bytes longest longest fine in
         rw (s-is, points-are, row-is) record {
           k-top = omega (arith, sound .numbers .k-top, sound .numbers .row-top);
-          count-top = points-few bytes sound;
+          count-top = count-small (sound .numbers);
           points-in = omega (arith, length-points bytes, length-front (pointsIn bytes) points);
           row-in = omega (arith, length-row bytes, length-front (rowIn bytes) row);
           text = enough;

@@ -1,4 +1,4 @@
--- What is known of bytes that are read as a slip: how long its parts are, and what it may be refused by.
+-- What a slip may be refused by.
 use Prim.Native.Nat.{ℕ, _*_, _<_, _≤_}
 use mathlib.Core.Bool.{Bool, true, false, _||_, not}
 use mathlib.Core.Path.{_≡_, refl}
@@ -9,34 +9,15 @@ use lib.ListN.{length}
 use borrow.Author.Tests.{ne-eqb, le-ltb}
 use Rattle.defs.specs.Refusal.{numberOf, placeOf}
 use Rattle.defs.specs.Limits.{deepest, longest, firstTwice}
-use Rattle.defs.specs.Slip.{allBits, depthIn, countIn, symbolsIn, pointsIn, rowIn}
+use Rattle.defs.specs.Slip.{allBits, depthIn, countIn, pointsIn}
 use Rattle.defs.specs.Read.{headVerdict, readVerdict}
 use Rattle.defs.specs.declared.Refusal.{Refusal}
 use Rattle.defs.specs.declared.Refusal.the-variants.{Field, Points, Dimension, PointTwice, Length, SlipShort, Edition, SlipLong}
 use Rattle.defs.specs.declared.Verdict.the-variants.{Fine}
-use Rattle.theory.proofs.Place.{length-tab}
-use Rattle.theory.proofs.Verdict.{apart, then-fine, Every, every-fine, every-plain, every-place, every-then}
+use Rattle.theory.proofs.Verdict.{apart, Every, every-fine, every-plain, every-place, every-then}
 use Rattle.theory.proofs.Refusals.{numbers-every}
 use Rattle.slip.proofs.Bits.{all-bits-are, number-below}
-use Rattle.slip.proofs.Reader.{Sound, sound, points-few}
-
-length-symbols : (bytes : List ℕ) (past n : ℕ) → length (symbolsIn bytes past n) ≡ n
-unfolding symbolsIn
-length-symbols bytes past n = length-tab _ n
-
-pub length-points : (bytes : List ℕ) → length (pointsIn bytes) ≡ countIn bytes
-unfolding pointsIn
-length-points bytes = length-symbols bytes 0 (countIn bytes)
-
-pub length-row : (bytes : List ℕ) → length (rowIn bytes) ≡ depthIn bytes * countIn bytes
-unfolding rowIn
-length-row bytes = length-symbols bytes (countIn bytes) (depthIn bytes * countIn bytes)
-
-pub read-sound : (bytes : List ℕ) (count n : ℕ) → readVerdict bytes count n ≡ Fine → Sound bytes
-unfolding readVerdict
-read-sound bytes count n e = sound bytes (then-fine _ _ e .0)
-
--- ---- a slip that is refused
+use Rattle.slip.proofs.Reader.{sound, points-few}
 
 -- neither 2, 5 nor 8
 abbrev pub readers : ℕ → Bool

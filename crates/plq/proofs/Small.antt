@@ -11,7 +11,7 @@ use Rattle.defs.specs.Distance.{radius}
 use Rattle.defs.specs.Limits.{deepest, longest}
 use Rattle.defs.specs.Encode.{encodeVerdict, distanceVerdict, distanceAnswer, Encoded}
 use Rattle.defs.specs.Decode.{Decoded, refused, found, none}
-use Rattle.defs.specs.Slip.{widthIn}
+use Rattle.defs.specs.Slip.{slipSize, widthIn}
 use Rattle.defs.specs.Write.{writeVerdict, Written}
 use Rattle.defs.specs.Read.{reading, Read}
 use Rattle.defs.specs.Line.{lineVerdict, Lined}
@@ -83,6 +83,7 @@ distance-detail r u w a e =
 
 pub written-small : {m r k : ℕ} {points w bytes : List ℕ} {a : Answer} {bytes′ : List ℕ}
     → Written m r k points w bytes a bytes′ → detail a < 2 ^ 16
+unfolding slipSize
 written-small {m} {r} {k} {points} {w} {bytes} {a} x =
     answer-small (writeVerdict m r k points w (length bytes)) _ a (x .answers) (write-every small m r k points w (length bytes))
     (λ fine. let y = writable m r k points w _ fine in

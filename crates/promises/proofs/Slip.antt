@@ -1,34 +1,24 @@
--- What the contracts of the two calls fix: one outcome each, no buffer changed by a refusal, a slip of at most 259 bytes, numbers
--- that the reader never answers, and that decode takes what was read.
-use Prim.Native.Nat.{ℕ, _+_, _*_, _^_, _<_, _≤_}
+-- What the contracts of the two calls fix: one outcome each, no buffer changed by a refusal, a slip of at most 259 bytes, and
+-- numbers that the reader never answers.
+use Prim.Native.Nat.{ℕ, _+_, _≤_}
 use mathlib.Core.Bool.{true, false}
 use mathlib.Core.Path.{_≡_, refl, ap, sym, _∙_}
 use mathlib.Core.List.{List}
-use native.Mathlib.Decide.{decLt}
 use native.Mathlib.Omega.{arith}
-use lib.ListN.{length, getD, List·getD-eq-default}
-use lib.Pow.{pow-pos}
-use borrow.Author.Tests.{ltb-false}
-use Rattle.defs.specs.Place.{Symbols, tab}
+use lib.ListN.{length}
 use Rattle.defs.specs.Refusal.{numberOf, number, answer}
-use Rattle.defs.specs.Limits.{firstTwice, Inside}
-use Rattle.defs.specs.Decode.{decodeVerdict}
-use Rattle.defs.specs.Slip.{allBits, numberAt, slipOf, widthIn, depthIn, countIn, dimensionIn, symbolsIn, pointsIn, rowIn}
+use Rattle.defs.specs.Slip.{longestSlip, slipOf}
 use Rattle.defs.specs.Write.{writeVerdict, Written}
-use Rattle.defs.specs.Read.{headVerdict, readVerdict, reading, Read}
+use Rattle.defs.specs.Read.{readVerdict, reading, Read}
 use Rattle.defs.specs.declared.Refusal.{Refusal}
 use Rattle.defs.specs.declared.Verdict.{Verdict}
 use Rattle.defs.specs.declared.Verdict.the-variants.{Fine, Refused}
 use Rattle.defs.specs.declared.Answer.{Answer}
 use Rattle.defs.specs.declared.Answer.the-variants.{Refused as No}
 use Rattle.defs.specs.declared.SlipRead.{SlipRead}
-use Rattle.theory.proofs.Place.{length-tab, getD-tab}
-use Rattle.theory.proofs.Limits.{none-twice, limits-inside}
-use Rattle.theory.proofs.Checks.{decode-fine}
-use Rattle.theory.proofs.Verdict.{apart, refuse-fine, then-fine, answer-refused, kept-refused, Every}
-use Rattle.slip.proofs.Bits.{all-bits-are, number-below}
+use Rattle.theory.proofs.Verdict.{apart, answer-refused, kept-refused, Every}
 use Rattle.slip.proofs.Writer.{inside-width, writable, few, size-top}
-use Rattle.line.proofs.Slips.{readers, length-points, length-row, read-sound, read-every}
+use Rattle.line.proofs.Slips.{readers, read-every}
 use Rattle.line.proofs.Reading.{reading-answer}
 use Rattle.promises.proofs.RoundTrip.{length-slip}
 
@@ -48,7 +38,7 @@ pub write-refused : {m r k : ℕ} {points w bytes : List ℕ} {x : Refusal} {byt
 write-refused t = t .leaves ∙ kept-refused _ _ _ _ _ (sym (t .answers))
 
 -- the reader's answer is that of its checks
-answered : {bytes points row : List ℕ} {s : SlipRead} {points′ row′ : List ℕ} → Read bytes points row s points′ row′
+pub answered : {bytes points row : List ℕ} {s : SlipRead} {points′ row′ : List ℕ} → Read bytes points row s points′ row′
     → s .answer ≡ answer (readVerdict bytes (length points) (length row)) 0
 answered {bytes} t = ap (λ (x : SlipRead). x .answer) (t .answers) ∙ reading-answer _ bytes
 
@@ -63,7 +53,7 @@ read-refused {bytes} {points} {row} {s} {x} t e =
 
 -- ---- the size of a slip
 
-pub slip-top : (m r k : ℕ) (points w : List ℕ) (size : ℕ) → writeVerdict m r k points w size ≡ Fine → length (slipOf m r k points w) ≤ 259
+pub slip-top : (m r k : ℕ) (points w : List ℕ) (size : ℕ) → writeVerdict m r k points w size ≡ Fine → length (slipOf m r k points w) ≤ longestSlip
 slip-top m r k points w size e =
     let x = writable m r k points w size e in
     rw length-slip (size-top m (length points + length w) (inside-width m r k points (x .inside)) (few m r k points w (x .inside) (x .row)))
@@ -83,43 +73,3 @@ pub reader-never : {bytes points row : List ℕ} {s : SlipRead} {points′ row�
 reader-never {bytes} {points} {row} {s} t =
     let p : readers (number (s .answer)) ≡ true = rw (answered t) (number-reads _ (read-every (λ x r l. r) bytes (length points) (length row))) in
     (other _ 2 p refl, other _ 5 p refl, other _ 8 p refl)
-
--- ---- a slip that is read: its code is inside the limits, and decode takes its row
-
-symbols-in : (bytes : List ℕ) (past n : ℕ) → Symbols (widthIn bytes) (symbolsIn bytes past n)
-unfolding symbolsIn
-symbols-in bytes past n i = go (decLt i n)
-  where
-    F : ℕ → ℕ
-    F j = numberAt (widthIn bytes) (24 + widthIn bytes * (past + j)) (allBits 8 bytes)
-
-    go : Dec (i < n) → getD (tab F n) i 0 < 2 ^ widthIn bytes
-    go (yes l) = rw (getD-tab F n i l) (number-below (widthIn bytes) (24 + widthIn bytes * (past + i)) (allBits 8 bytes) (all-bits-are 8 bytes))
-    go (no l) = rw (List·getD-eq-default (tab F n) 0 {n = i} (omega (arith, length-tab F n))) (pow-pos (widthIn bytes))
-
-points-low : (bytes : List ℕ) → Symbols (widthIn bytes) (pointsIn bytes)
-unfolding pointsIn
-points-low bytes = symbols-in bytes 0 (countIn bytes)
-
-row-low : (bytes : List ℕ) → Symbols (widthIn bytes) (rowIn bytes)
-unfolding rowIn
-row-low bytes = symbols-in bytes (countIn bytes) (depthIn bytes * countIn bytes)
-
-module _ (bytes : List ℕ) (count n : ℕ) (fine : readVerdict bytes count n ≡ Fine) where
-  once : countIn bytes ≤ firstTwice (pointsIn bytes)
-  unfolding readVerdict
-  once = ltb-false _ _ (refuse-fine _ _ _ (then-fine (headVerdict bytes) _ fine .1) .0)
-
-  inside : Inside (widthIn bytes) (depthIn bytes) (dimensionIn bytes) (pointsIn bytes)
-  inside =
-      limits-inside _ _ _ _
-      record {
-        numbers = rw (length-points bytes) (read-sound bytes count n fine .numbers);
-        symbols = points-low bytes;
-        distinct = none-twice (pointsIn bytes) (rw (length-points bytes) once);
-      }
-
-  pub decodable : decodeVerdict (widthIn bytes) (depthIn bytes) (dimensionIn bytes) (pointsIn bytes) (rowIn bytes) (dimensionIn bytes) (countIn bytes) ≡ Fine
-  decodable =
-      decode-fine _ _ _ (pointsIn bytes) (rowIn bytes) _ _ inside (rw (length-row bytes, length-points bytes)) refl
-      (sym (length-points bytes)) (row-low bytes)

@@ -94,7 +94,7 @@ numbers-inside m r k count s =
       le-ltb (r * count) k (s .k-top),
     )
 
-all-low : (m : ℕ) (s : List ℕ) → Symbols m s → firstHigh m s ≡ length s
+pub all-low : (m : ℕ) (s : List ℕ) → Symbols m s → firstHigh m s ≡ length s
 unfolding firstHigh
 all-low m s h = least-none _ (length s) (λ j l. lt-leb (2 ^ m) (getD s j 0) (h j))
 
