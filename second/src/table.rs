@@ -26,9 +26,10 @@ const MESSAGE: (usize, usize) = (16, 7);
 const SPARE: (usize, usize) = (23, 1);
 
 type Bytes = Vec<u8>;
+type Group = fn() -> Vec<Bytes>;
 
 /// What the groups hold, in the order in which they stand in the table.
-const GROUPS: [(&str, fn() -> Vec<Bytes>); 8] = [
+const GROUPS: [(&str, Group); 8] = [
     ("rows worked by hand", by_hand),
     (
         "the six bytes cut and extended, spare bit and fill set",
