@@ -1,9 +1,10 @@
 -- `put_number` writes the decimal digits; the measure is the number, of which a tenth is left at each call of itself.
 use native.Mathlib.Omega.{arith}
 use borrow.Author.Needs.{needs}
-use Prim.Native.Nat.{ℕ, _<_, _≤_}
-use mathlib.Core.Path.{ap}
+use Prim.Native.Nat.{ℕ, _+_, _/_, _<_, _≤_}
+use mathlib.Core.Path.{_≡_, ap}
 use lib.ListN.{length}
+use Rattle.defs.specs.Line.{decimal}
 use Rattle.line.proofs.Decimal.{decimal-one, decimal-ten, shorter}
 use Rattle.line.proofs.Pieces.{left-over, wrote-then}
 use borrow.Fn.Kinds.{In}
@@ -30,6 +31,17 @@ put-number-below t =
 abbrev claims : ℕ → put-number-lts.Claims
 claims t = (put-reads.Asked, put-reads.Learnt, put-number-below t, put-number.Post)
 
+-- where there is more than one digit
+module _ (t : ℕ) (c : put-number-lts.Else1 (claims t) (put-number-at t) put-number.Post) where
+  abbrev start : put-number-lts.Start (claims t) (put-number-at t) put-number.Post
+  start = c .before .before
+
+  many : 10 ≤ start .args .x
+  many = c .if1 .left
+
+  more : length (decimal (start .args .x)) ≡ length (decimal (start .args .x / 10)) + 1
+  more = shorter (start .args .x) many (start .fits .x .fits)
+
 put-number-cast-put : (t : ℕ) → put-number-lts.Need-cast-put (claims t) (put-number-at t) put-number.Post
 put-number-cast-put t c = omega arith
 
@@ -47,9 +59,8 @@ put-number-returns t c = rw (decimal-one _ (c .before .before .before .before .i
 
 put-number-put-number-requires : (t : ℕ) → put-number-lts.Need-put-number-requires (claims t) (put-number-at t) put-number.Post
 put-number-put-number-requires t c κs =
-    let s = c .before .before .before in
-    let l : 10 ≤ s .args .x = omega arith in
-    (omega arith, omega (arith, shorter (s .args .x) l (s .fits .x .fits)))
+    let l = many t (c .before) in
+    (omega arith, omega (arith, more t (c .before)))
 
 put-number-cast-put-2 : (t : ℕ) → put-number-lts.Need-cast-put-2 (claims t) (put-number-at t) put-number.Post
 put-number-cast-put-2 t c = omega arith
@@ -60,9 +71,7 @@ put-number-add-put-2 t c = omega arith
 put-number-put-requires-2 : (t : ℕ) → put-number-lts.Need-put-requires-2 (claims t) (put-number-at t) put-number.Post
 put-number-put-requires-2 t c κs =
     let front = c .before .before .before in
-    let s = front .before .before .before .before in
-    let l : 10 ≤ s .args .x = omega arith in
-    omega (arith, left-over 1 (front .put-number .ensures) (omega (arith, shorter (s .args .x) l (s .fits .x .fits))))
+    omega (arith, left-over 1 (front .put-number .ensures) (omega (arith, more t (front .before .before))))
 
 put-number-same-length-2 : (t : ℕ) → put-number-lts.Need-same-length-2 (claims t) (put-number-at t) put-number.Post
 put-number-same-length-2 t c = search needs
@@ -71,8 +80,8 @@ put-number-returns-2 : (t : ℕ) → put-number-lts.Need-returns-2 (claims t) (p
 put-number-returns-2 t c =
     let last = c .before .before in
     let front = last .before .before .before .before in
-    let s = front .before .before .before .before in
-    rw (decimal-ten _ (omega arith) (s .fits .x .fits)) (wrote-then _ _ (front .put-number .ensures) (last .put2 .ensures))
+    let e = front .before .before in
+    rw (decimal-ten _ (many t e) (start t e .fits .x .fits)) (wrote-then _ _ (front .put-number .ensures) (last .put2 .ensures))
 
 pub +put-number-spec : {M : Type 1} → statement M
 +put-number-spec = close μ-put-number λ t. put-number-lts.spec

@@ -4,7 +4,7 @@ use native.Mathlib.Omega.{arith}
 use lib.ListN.{length}
 use borrow.Author.Needs.{needs}
 use Rattle.defs.specs.Line.{decimal}
-use Rattle.line.proofs.Pieces.{left-over, heading-room, wrote-heading}
+use Rattle.line.proofs.Pieces.{heading-room, wrote-heading}
 use Rattle.line.proofs.put_heading.Statement.{statement}
 use Rattle.line.proofs.put_heading.Tie as tie
 
@@ -27,9 +27,6 @@ module _ (c : tie.After-put-spaced-arg) where
   abbrev told : tie.After-detail-in
   told = number .before .before
 
-  left : number .put-number .result + suc (length (decimal (told .detail-in .result))) ≤ length (number .put-number .last .0)
-  left = left-over _ (number .put-number .ensures) (fits told)
-
 number-in-requires : tie.Need-number-in-requires
 number-in-requires c κs = search needs
 
@@ -40,7 +37,9 @@ put-number-requires : tie.Need-put-number-requires
 put-number-requires c κs = omega (arith, fits (c .before))
 
 put-spaced-requires : tie.Need-put-spaced-requires
-put-spaced-requires c κs = left c
+put-spaced-requires c κs =
+    let written = number c .put-number .ensures in
+    omega (arith, fits (told c), written .size, written .ends)
 
 same-length : tie.Need-same-length
 same-length c = search needs
