@@ -3,10 +3,10 @@ use Prim.Native.Nat.{ℕ, _*_}
 use mathlib.Core.Path.{_≡_, ap, sym, _∙_}
 use mathlib.Core.List.{List}
 use lib.ListN.{length, take}
-use Rattle.defs.specs.Refusal.{answer, kept}
+use Rattle.defs.specs.Refusal.{kept}
 use Rattle.defs.specs.Limits.{Inside}
 use Rattle.defs.specs.Decode.{decodeVerdict}
-use Rattle.defs.specs.Slip.{widthIn, depthIn, countIn, dimensionIn, pointsIn, rowIn}
+use Rattle.defs.specs.Slip.{depthIn, countIn, pointsIn, rowIn}
 use Rattle.defs.specs.Write.{front}
 use Rattle.defs.specs.Read.{readVerdict, reading, Read}
 use Rattle.defs.specs.declared.Verdict.{Verdict}

@@ -1,12 +1,9 @@
 -- `check_head` meets its contract: each way out by its lemma.
 use Prim.Native.Nat.{_+_, _*_, _≤_}
 use mathlib.Core.Path.{_≡_, sym, _∙_}
-use mathlib.Core.List.{List}
 use native.Mathlib.Omega.{arith}
 use borrow.Author.Needs.{needs}
 use Rattle.defs.specs.Limits.{longest, numbersVerdict}
-use Rattle.defs.specs.Read.{headVerdict}
-use Rattle.defs.specs.declared.Verdict.{Verdict}
 use Rattle.defs.specs.declared.Verdict.the-variants.{Fine}
 use Rattle.theory.specs.Limits.{Numbers}
 use Rattle.theory.proofs.Limits.{numbers-known, count-small}
@@ -71,8 +68,8 @@ enum-known-v c = search needs
 
 returns-3 : tie.Need-returns-3
 returns-3 c =
-    let e = c .before .before .before .check-numbers .ensures in
-    head-numbers _ _ (opened (c .before .before .before .before)) _ (sym e ∙ c .before .v .given .1)
+    let at = c .before .before .before in
+    head-numbers _ _ (opened (at .before)) _ (cc (at .check-numbers .ensures, c .before .v .given .1))
 
 enum-told : tie.Need-enum-told
 enum-told c = search needs
