@@ -32,7 +32,8 @@ use Rattle.slip.proofs.Writer.{inside-width, writable, few, size-top}
 use Rattle.slip.proofs.Reader.{Sound, points-few}
 use Rattle.line.proofs.Lengths.{refusal-small}
 use Rattle.line.proofs.Lines.{line-short}
-use Rattle.line.proofs.Slips.{read-sound, read-every}
+use Rattle.slip.proofs.Taken.{read-sound}
+use Rattle.line.proofs.Slips.{read-every}
 use Rattle.plq.specs.Packed.{Narrow}
 
 pub number-small : (a : Answer) → number a < 2 ^ 8
