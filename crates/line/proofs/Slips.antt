@@ -1,68 +1,55 @@
--- What is known of bytes that are refused as a slip.
-use Prim.Native.Nat.{ℕ, _<_, _≤_}
-use mathlib.Core.Bool.{Bool, true, false}
-use mathlib.Core.Path.{_≡_}
+-- What a slip may be refused by.
+use Prim.Native.Nat.{ℕ, _*_, _<_, _≤_}
+use mathlib.Core.Bool.{Bool, true, false, _||_, not}
+use mathlib.Core.Path.{_≡_, refl}
 use mathlib.Core.List.{List}
 use native.Mathlib.Omega.{arith}
-use lib.Dec.{lit<}
+use lib.Dec.{eqb, ltb, lit<}
 use lib.ListN.{length}
-use Rattle.defs.specs.Refusal.{refuse, andThen, placeOf}
-use Rattle.defs.specs.Limits.{longest, numbersVerdict, firstTwice}
-use Rattle.defs.specs.Slip.{allBits, countIn, pointsIn}
+use borrow.Author.Tests.{ne-eqb, le-ltb}
+use Rattle.defs.specs.Refusal.{numberOf, placeOf}
+use Rattle.defs.specs.Limits.{deepest, longest, firstTwice}
+use Rattle.defs.specs.Slip.{allBits, depthIn, countIn, pointsIn}
 use Rattle.defs.specs.Read.{headVerdict, readVerdict}
 use Rattle.defs.specs.declared.Refusal.{Refusal}
-use Rattle.defs.specs.declared.Verdict.{Verdict}
-use Rattle.defs.specs.declared.Verdict.the-variants.{Fine, Refused}
-use Rattle.theory.proofs.Place.{least-le}
+use Rattle.defs.specs.declared.Refusal.the-variants.{Field, Points, Dimension, PointTwice, Length, SlipShort, Edition, SlipLong}
+use Rattle.defs.specs.declared.Verdict.the-variants.{Fine}
+use Rattle.theory.proofs.Verdict.{apart, Every, every-fine, every-plain, every-place, every-then}
+use Rattle.theory.proofs.Refusals.{numbers-every}
 use Rattle.slip.proofs.Bits.{all-bits-are, number-below}
-use Rattle.slip.proofs.Taken.{length-points}
+use Rattle.slip.proofs.Reader.{sound, points-few}
 
--- ---- a slip that is refused: the place has three digits at most
+-- neither 2, 5 nor 8
+abbrev pub readers : ℕ → Bool
+readers n = not (eqb n 2 || (eqb n 5 || eqb n 8))
 
-place : Verdict → ℕ
-place Fine = 0
-place (Refused x) = placeOf x
+-- three bits hold no r - 1 outside the limits
+depth-in : (bytes : List ℕ) → (0 < depthIn bytes) × (depthIn bytes ≤ deepest)
+unfolding depthIn
+depth-in bytes = omega (arith, number-below 3 6 (allBits 8 bytes) (all-bits-are 8 bytes))
 
-module _ (x : Refusal) (v : Verdict) where
-  refuse-place : (b : Bool) → placeOf x < 1000 → place v < 1000 → place (refuse b x v) < 1000
-  unfolding refuse place
-  refuse-place true h rest = h
-  refuse-place false h rest = rest
+never-deep : (r : ℕ) → 0 < r → r ≤ deepest → eqb r 0 || ltb deepest r ≡ true → ⊥
+never-deep r l h e =
+    let q : false ≡ true = rw (ne-eqb r 0 (omega arith), le-ltb deepest r h) at e in
+    apart cc
 
-then-place : (u v : Verdict) → place u < 1000 → place v < 1000 → place (andThen u v) < 1000
-unfolding andThen place
-then-place Fine v h rest = rest
-then-place (Refused x) v h rest = h
+-- a property that each refusal has whose number is the reader's and whose place, if any, is below the longest row's length
+module _ {P : Refusal → Type 0} (told : (x : Refusal) → readers (numberOf x) ≡ true → placeOf x < longest → P x) (bytes : List ℕ) where
+  head-every : Every P (headVerdict bytes)
+  unfolding headVerdict
+  head-every =
+      let d = depth-in bytes in
+      every-plain _ _ _ (told SlipShort refl (lit< tt))
+      (every-plain _ _ _ (told Edition refl (lit< tt))
+      (every-then _ _
+      (numbers-every _ _ _ _ (told Field refl (lit< tt)) (λ t. absurd (never-deep _ (d .0) (d .1) t))
+      (told Points refl (lit< tt)) (told Dimension refl (lit< tt)))
+      (λ fine. every-plain _ _ _ (told SlipShort refl (lit< tt)) (every-plain _ _ _ (told SlipLong refl (lit< tt)) every-fine))))
 
-fine-place : place Fine < 1000
-unfolding place
-fine-place = lit< tt
-
-numbers-place : (m r k count : ℕ) → place (numbersVerdict m r k count) < 1000
-unfolding numbersVerdict
-numbers-place m r k count =
-    refuse-place _ _ _ (lit< tt) (refuse-place _ _ _ (lit< tt) (refuse-place _ _ _ (lit< tt) (refuse-place _ _ _ (lit< tt) fine-place)))
-
-head-place : (bytes : List ℕ) → place (headVerdict bytes) < 1000
-unfolding headVerdict
-head-place bytes =
-    refuse-place _ _ _ (lit< tt)
-    (refuse-place _ _ _ (lit< tt)
-    (then-place _ _ (numbers-place _ _ _ _) (refuse-place _ _ _ (lit< tt) (refuse-place _ _ _ (lit< tt) fine-place))))
-
-twice-le : (points : List ℕ) → firstTwice points ≤ length points
-unfolding firstTwice
-twice-le points = least-le _ (length points)
-
-twice-place : (bytes : List ℕ) → firstTwice (pointsIn bytes) < 1000
-unfolding countIn
-twice-place bytes =
-    omega (arith, twice-le (pointsIn bytes), length-points bytes, number-below 7 9 (allBits 8 bytes) (all-bits-are 8 bytes))
-
-read-place : (bytes : List ℕ) → place (readVerdict bytes longest longest) < 1000
-unfolding readVerdict
-read-place bytes = then-place _ _ (head-place bytes) (refuse-place _ _ _ (twice-place bytes) (refuse-place _ _ _ (lit< tt) fine-place))
-
-pub refused-place : (bytes : List ℕ) (x : Refusal) → readVerdict bytes longest longest ≡ Refused x → placeOf x < 1000
-unfolding place
-refused-place bytes x e = rw e at (read-place bytes)
+  pub read-every : (count n : ℕ) → Every P (readVerdict bytes count n)
+  unfolding readVerdict
+  read-every count n =
+      every-then (headVerdict bytes) _ head-every
+      (λ fine. every-place (firstTwice (pointsIn bytes)) (countIn bytes) _ _
+      (λ l. told (PointTwice _) refl (omega (arith, points-few bytes (sound bytes fine))))
+      (every-plain _ _ _ (told Length refl (lit< tt)) every-fine))

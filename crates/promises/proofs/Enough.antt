@@ -16,7 +16,7 @@ use Rattle.defs.specs.declared.Refusal.the-variants.{SlipShort, Edition, SlipLo
 use Rattle.defs.specs.declared.Verdict.{Verdict}
 use Rattle.defs.specs.declared.Verdict.the-variants.{Fine, Refused}
 use Rattle.theory.proofs.Limits.{numbers-known, count-small}
-use Rattle.theory.proofs.Verdict.{refuse-fine, then-fine}
+use Rattle.theory.proofs.Verdict.{apart, refuse-fine, then-fine}
 use Rattle.slip.proofs.Writer.{size-top}
 use Rattle.promises.proofs.Header.{head-kept}
 
@@ -72,4 +72,4 @@ unfolding longVerdict
 long-refused bytes long count n e = refused _ _ (sym (read-long bytes long count n) ∙ e)
   where
     refused : (b : Bool) (v : Verdict) → refuse b Edition (andThen v (Refused SlipLong)) ≡ Fine → ⊥
-    refused b v q = let z : _≡_ {A = ℕ} 0 1 = cc (then-fine v (Refused SlipLong) (refuse-fine b Edition (andThen v (Refused SlipLong)) q .1) .1) in omega arith
+    refused b v q = apart (cc (then-fine v (Refused SlipLong) (refuse-fine b Edition (andThen v (Refused SlipLong)) q .1) .1))

@@ -1,30 +1,26 @@
 -- A slip that was read, into buffers of any length, gives a code inside the limits and a row that decode takes.
 use Prim.Native.Nat.{ℕ, _*_}
-use mathlib.Core.Path.{_≡_, refl, ap, _∙_}
+use mathlib.Core.Path.{_≡_, ap, sym, _∙_}
 use mathlib.Core.List.{List}
 use lib.ListN.{length, take}
-use Rattle.defs.specs.Refusal.{answer, kept}
+use Rattle.defs.specs.Refusal.{kept}
 use Rattle.defs.specs.Limits.{Inside}
 use Rattle.defs.specs.Decode.{decodeVerdict}
-use Rattle.defs.specs.Slip.{widthIn, depthIn, countIn, dimensionIn, pointsIn, rowIn}
+use Rattle.defs.specs.Slip.{depthIn, countIn, pointsIn, rowIn}
 use Rattle.defs.specs.Write.{front}
 use Rattle.defs.specs.Read.{readVerdict, reading, Read}
 use Rattle.defs.specs.declared.Verdict.{Verdict}
-use Rattle.defs.specs.declared.Verdict.the-variants.{Fine, Refused}
+use Rattle.defs.specs.declared.Verdict.the-variants.{Fine}
 use Rattle.defs.specs.declared.Answer.the-variants.{Done}
 use Rattle.defs.specs.declared.SlipRead.{SlipRead}
-use Rattle.theory.proofs.Verdict.{apart}
+use Rattle.theory.proofs.Verdict.{answer-done}
 use Rattle.slip.proofs.Front.{take-front}
 use Rattle.slip.proofs.Taken.{length-points, length-row, inside, decodable}
-
-reading-fine : (v : Verdict) (bytes : List ℕ) (d : ℕ) → reading v bytes .answer ≡ Done d → v ≡ Fine
-unfolding reading
-reading-fine Fine bytes d e = refl
-reading-fine (Refused x) bytes d e = absurd (apart cc)
+use Rattle.promises.proofs.Slip.{answered}
 
 module _ (bytes points row points′ row′ : List ℕ) (s : SlipRead) (x : Read bytes points row s points′ row′) (d : ℕ) (done : s .answer ≡ Done d) where
   fine : readVerdict bytes (length points) (length row) ≡ Fine
-  fine = reading-fine _ bytes d (rw (x .answers) at done)
+  fine = answer-done _ 0 d (sym (answered x) ∙ done)
 
   -- its numbers are those that stand in the slip, and the buffers begin with its points and its row
   s-is : s ≡ reading Fine bytes

@@ -11,7 +11,7 @@ use Rattle.defs.specs.Write.{front, Written}
 use Rattle.defs.specs.declared.Answer.{Answer}
 use Rattle.defs.specs.declared.Answer.the-variants.{Done}
 use Rattle.theory.proofs.Verdict.{answer-done}
-use Rattle.slip.proofs.Writer.{Writable, writable, writable-fine}
+use Rattle.slip.proofs.Writer.{writable, writable-fine}
 
 module _ (m r k : ℕ) (points w bytes : List ℕ) (a : Answer) (bytes′ : List ℕ) (x : Written m r k points w bytes a bytes′) where
   pub write-done : Inside m r k points → length w ≡ r * length points → Symbols m w → slipSize m (length points + length w) ≤ length bytes

@@ -92,7 +92,7 @@ few m r k points w e l =
 -- no slip is longer than the longest
 pub size-top : (m symbols : ℕ) → Width m → symbols ≤ 2 * longest → slipSize m symbols ≤ longestSlip
 unfolding slipSize
-size-top m symbols w l = omega (arith, mul-le-mul {n₁ = symbols} {m₁ = m} {n₂ = 256} {m₂ = 8} l (width-top m w))
+size-top m symbols w l = omega (arith, mul-le-mul {n₁ = symbols} {m₁ = m} {n₂ = 2 * longest} {m₂ = 8} l (width-top m w))
 
 -- the ways out of the call
 module _ (m r k : ℕ) (points w bytes : List ℕ) where

@@ -53,8 +53,8 @@ enum-known-v c = search needs
 
 returns-3 : tie.Need-returns-3
 returns-3 c =
-    let e = c .before .before .before .check-numbers .ensures in
-    first-numbers _ _ (opened (c .before .before .before .before)) _ (sym e ∙ c .before .v .given .1)
+    let at = c .before .before .before in
+    first-numbers _ _ (opened (at .before)) _ (cc (at .check-numbers .ensures, c .before .v .given .1))
 
 enum-told : tie.Need-enum-told
 enum-told c = search needs

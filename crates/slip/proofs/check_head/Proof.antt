@@ -23,7 +23,7 @@ enum-known-v : tie.Need-enum-known-v
 enum-known-v c = search needs
 
 returns : tie.Need-returns
-returns c = head-first _ _ (sym (c .before .before .before .check-first .ensures) ∙ c .before .v .given .1)
+returns c = head-first _ _ (cc (c .before .before .before .check-first .ensures, c .before .v .given .1))
 
 enum-told : tie.Need-enum-told
 enum-told c = search needs

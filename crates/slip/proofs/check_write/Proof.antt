@@ -1,7 +1,5 @@
 -- `check_write` meets its contract: each way out by its lemma.
-use Prim.Native.Nat.{_+_, _≤_}
 use mathlib.Core.Path.{sym, _∙_}
-use mathlib.Core.List.{List}
 use native.Mathlib.Omega.{arith}
 use borrow.Author.Needs.{needs}
 use Rattle.defs.specs.Field.{Width}
