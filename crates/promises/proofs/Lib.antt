@@ -1,10 +1,14 @@
 -- The promises.
 pub mod Encode
 pub mod Decode
+pub mod Write
+pub mod Taken
 pub mod RoundTrip
 pub mod Slip
+pub mod Header
 pub mod Enough
 pub mod WorkedSlip
 pub mod Line
 pub mod Packed
 pub mod Unpacked
+pub mod Roll

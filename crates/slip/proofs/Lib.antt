@@ -5,4 +5,5 @@ pub mod Packed
 pub mod Front
 pub mod Writer
 pub mod Reader
+pub mod Taken
 pub mod Canonical

@@ -1,4 +1,5 @@
 -- The laws of the definitions.
+pub mod Order
 pub mod Field
 pub mod Width
 pub mod Generator
@@ -24,3 +25,4 @@ pub mod Demand3
 pub mod Pair
 pub mod Quotient
 pub mod Checks
+pub mod Refusals
