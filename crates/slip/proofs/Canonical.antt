@@ -10,13 +10,14 @@ use lib.ListN.{length, getD, List·getD-eq-default}
 use lib.Seq.{getD-append-add}
 use Rattle.defs.specs.Field.{Width}
 use Rattle.defs.specs.Place.{least, tab, Symbols}
-use Rattle.defs.specs.Slip.{bits, allBits, numberAt, widthOf, fieldCode, slipSize, slipBits, slipOf, editionIn, widthIn, depthIn, countIn, dimensionIn, sizeIn, symbolsIn, pointsIn, rowIn, spareIn, usedIn, fillIn}
+use Rattle.defs.specs.Slip.{bits, allBits, numberAt, widthOf, fieldCode, slipSize, longestSlip, slipBits, slipOf, editionIn, widthIn, depthIn, countIn, dimensionIn, sizeIn, symbolsIn, pointsIn, rowIn, spareIn, usedIn, fillIn}
 use Rattle.theory.proofs.Place.{length-tab, getD-tab, tab-append, tab-same, tab-getD}
 use Rattle.theory.proofs.Width.{width-pos}
 use Rattle.slip.specs.Head.{headerBits}
 use Rattle.slip.proofs.Bits.{length-all-bits, all-bits-are, number-below, number-inside, number-nil, number-one, number-split, number-fields, number-bits, number-symbol, number-same, bits-told}
 use Rattle.slip.proofs.Packed.{byte-is, slip-bits-are, in-header, behind-header}
-use Rattle.slip.proofs.Reader.{Sound}
+use Rattle.slip.proofs.Reader.{Sound, points-few}
+use Rattle.slip.proofs.Writer.{size-top}
 
 lt-eq : {a b c : ℕ} → a < b → b ≡ c → a < c
 lt-eq l e = omega arith
@@ -45,6 +46,20 @@ field-told (suc zero) w = refl
 field-told (suc (suc zero)) w = refl
 field-told (suc (suc (suc f))) w = absurd (omega (arith, width-pos _ w))
 
+pub used-is : (bytes : List ℕ) (m symbols : ℕ) → m ≡ widthIn bytes → symbols ≡ countIn bytes + depthIn bytes * countIn bytes → 24 + m * symbols ≡ usedIn bytes
+unfolding usedIn
+used-is bytes m symbols e q = rw (e, q)
+
+-- a sound slip is short, and its fill is below a byte
+module _ (bytes : List ℕ) (s : Sound bytes) where
+  pub slip-small : length bytes ≤ 2 ^ 10
+  unfolding sizeIn slipSize
+  slip-small = omega (arith, s .size, size-top (widthIn bytes) (countIn bytes + depthIn bytes * countIn bytes) (s .numbers .width) (omega (arith, points-few bytes s, s .numbers .row-top)))
+
+  pub fill-few : usedIn bytes ≤ 8 * length bytes × (8 * length bytes < usedIn bytes + 8)
+  unfolding usedIn sizeIn slipSize
+  fill-few = omega (arith, s .size, mul-comm (widthIn bytes) (countIn bytes + depthIn bytes * countIn bytes))
+
 -- what was read of bytes, and the bits that hold nothing
 module _ (bytes : List ℕ) (are : Symbols 8 bytes) (s : Sound bytes) where
   abbrev S : List ℕ
@@ -64,22 +79,23 @@ module _ (bytes : List ℕ) (are : Symbols 8 bytes) (s : Sound bytes) where
   body-is = sym (tab-append (λ j. numberAt m (24 + m * j) S) (countIn bytes) (depthIn bytes * countIn bytes)
       ∙ ap (λ (x : List ℕ). x ++ tab (λ j. numberAt m (24 + m * (countIn bytes + j)) S) (depthIn bytes * countIn bytes)) (tab-same _ _ (countIn bytes) (λ j l. rw (zero-add j))))
 
-  -- the fill is below a byte, and so it is what is left of the last one
-  fill-few : usedIn bytes ≤ 8 * length bytes × (8 * length bytes < usedIn bytes + 8)
-  unfolding usedIn sizeIn slipSize
-  fill-few = omega (arith, s .size, mul-comm m N)
-
-  pub fill-byte : (last left : ℕ) → last + 1 ≡ length bytes → left ≡ 8 * length bytes - usedIn bytes → getD bytes last 0 % 2 ^ left ≡ fillIn bytes
+  -- the fill is what is left of the last byte, the spare bit the last one of the third
+  fill-byte : (last left : ℕ) → last + 1 ≡ length bytes → left ≡ 8 * length bytes - usedIn bytes → getD bytes last 0 % 2 ^ left ≡ fillIn bytes
   unfolding fillIn
   fill-byte last left e q =
-      let c : (8 - left) + (left + 0) ≡ 8 = omega (arith, fill-few) in
-      let place : 8 * last + (8 - left) ≡ usedIn bytes = omega (arith, fill-few) in
+      let c : (8 - left) + (left + 0) ≡ 8 = omega (arith, fill-few bytes s) in
+      let place : 8 * last + (8 - left) ≡ usedIn bytes = omega (arith, fill-few bytes s) in
       let inside = number-inside (8 - left) left 0 8 (8 * last) S c S-are in
       rw (← s .size, ← q) (rw (← byte-is bytes are last) (rw place at (simp (pow-zero, div-one) at inside)))
 
-  pub spare-byte : getD bytes 2 0 % 2 ≡ spareIn bytes
+  spare-byte : getD bytes 2 0 % 2 ≡ spareIn bytes
   unfolding spareIn
   spare-byte = omega (arith, number-inside 7 1 0 8 16 S refl S-are, byte-is bytes are 2)
+
+  pub loose-is : (a b left : ℕ) → a ≡ getD bytes 2 0 → b ≡ getD bytes (length bytes - 1) 0 → left ≡ 8 * length bytes - usedIn bytes
+      → a % 2 + b % 2 ^ left ≡ spareIn bytes + fillIn bytes
+  loose-is a b left p q e =
+      cc (spare-byte, fill-byte (length bytes - 1) left (omega (arith, s .long)) e)
 
   header-told : editionIn bytes ≡ 1 → spareIn bytes ≡ 0 → numberAt 24 0 (headerBits m (depthIn bytes) (dimensionIn bytes) (countIn bytes)) ≡ numberAt 24 0 S
   unfolding headerBits editionIn widthIn depthIn countIn dimensionIn spareIn

@@ -19,7 +19,7 @@ use Rattle.theory.proofs.Checks.{decode-fine}
 use Rattle.theory.proofs.Verdict.{refuse-fine, then-fine}
 use Rattle.slip.proofs.Bits.{all-bits-are, number-below}
 use Rattle.slip.proofs.Front.{length-symbols}
-use Rattle.slip.proofs.Reader.{Sound, sound}
+use Rattle.slip.proofs.Reader.{Sound, sound, read-checked, read-once}
 
 module _ (bytes : List ℕ) where
   -- symbols of m bits are below 2 ^ m
@@ -53,12 +53,7 @@ module _ (bytes : List ℕ) where
   -- whatever room there was for its points and its row
   module _ (count n : ℕ) (fine : readVerdict bytes count n ≡ Fine) where
     pub read-sound : Sound bytes
-    unfolding readVerdict
-    read-sound = sound bytes (then-fine _ _ fine .0)
-
-    once : countIn bytes ≤ firstTwice (pointsIn bytes)
-    unfolding readVerdict
-    once = ltb-false _ _ (refuse-fine _ _ _ (then-fine _ _ fine .1) .0)
+    read-sound = sound bytes (read-checked bytes count n fine)
 
     pub inside : Inside (widthIn bytes) (depthIn bytes) (dimensionIn bytes) (pointsIn bytes)
     inside =
@@ -66,7 +61,7 @@ module _ (bytes : List ℕ) where
         (record {
           numbers = rw length-points (read-sound .numbers);
           symbols = points-low;
-          distinct = none-twice (pointsIn bytes) (rw length-points once);
+          distinct = none-twice (pointsIn bytes) (rw length-points (read-once bytes count n fine));
         })
 
     pub decodable : decodeVerdict (widthIn bytes) (depthIn bytes) (dimensionIn bytes) (pointsIn bytes) (rowIn bytes) (dimensionIn bytes) (countIn bytes) ≡ Fine
