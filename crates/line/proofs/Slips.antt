@@ -12,7 +12,7 @@ use Rattle.defs.specs.Limits.{deepest, longest, firstTwice}
 use Rattle.defs.specs.Slip.{allBits, depthIn, countIn, pointsIn}
 use Rattle.defs.specs.Read.{headVerdict, readVerdict}
 use Rattle.defs.specs.declared.Refusal.{Refusal}
-use Rattle.defs.specs.declared.Refusal.the-variants.{Field, Points, Dimension, PointTwice, Length, SlipShort, Edition, SlipLong}
+use Rattle.defs.specs.declared.Refusal.the-variants.{Field, Points, Dimension, PointTwice, Length, SlipShort, Edition, SlipLong, SlipBits}
 use Rattle.defs.specs.declared.Verdict.the-variants.{Fine}
 use Rattle.theory.proofs.Verdict.{apart, Every, every-fine, every-plain, every-place, every-then}
 use Rattle.theory.proofs.Refusals.{numbers-every}
@@ -50,6 +50,7 @@ module _ {P : Refusal → Type 0} (told : (x : Refusal) → readers (numberOf x)
   unfolding readVerdict
   read-every count n =
       every-then (headVerdict bytes) _ head-every
-      (λ fine. every-place (firstTwice (pointsIn bytes)) (countIn bytes) _ _
+      (λ fine. every-plain _ _ _ (told SlipBits refl (lit< tt))
+      (every-place (firstTwice (pointsIn bytes)) (countIn bytes) _ _
       (λ l. told (PointTwice _) refl (omega (arith, points-few bytes (sound bytes fine))))
-      (every-plain _ _ _ (told Length refl (lit< tt)) every-fine))
+      (every-plain _ _ _ (told Length refl (lit< tt)) every-fine)))

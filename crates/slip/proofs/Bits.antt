@@ -6,7 +6,7 @@ use native.Mathlib.Nat.{zero-add, add-zero, suc-add, add-suc, add-comm, add-asso
 use native.Mathlib.Numerals.{one-add}
 use native.Mathlib.Omega.{arith}
 use lib.Dec.{lit<}
-use lib.ListN.{length, getD, length-append, List·getD-append}
+use lib.ListN.{length, getD, length-append, List·getD-append, List·getD-eq-default}
 use lib.Pow.{pow-add, mod-pow-add, high, low}
 use lib.Seq.{getD-append-add}
 use Rattle.defs.specs.Place.{Symbols}
@@ -118,6 +118,10 @@ pub number-nil : (w p : ℕ) → numberAt w p [] ≡ 0
 unfolding numberAt
 number-nil zero p = refl
 number-nil (suc w) p = rw (number-nil w (suc p)) (rw zero-mul)
+
+-- past the end stands 0
+pub number-beyond : (w p : ℕ) (s : List ℕ) → length s ≤ p → numberAt w p s ≡ 0
+number-beyond w p s h = number-same w p 0 s [] (λ i l. List·getD-eq-default s 0 {n = p + i} (omega arith)) ∙ number-nil w 0
 
 -- a symbol among those of its width
 pub number-symbol : (w : ℕ) (s : List ℕ) (j : ℕ) → numberAt w (w * j) (allBits w s) ≡ getD s j 0 % 2 ^ w
