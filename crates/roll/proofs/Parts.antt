@@ -1,20 +1,18 @@
 -- The two parts of a roll: what they are where a slip was found and where none was, and that they are the roll cut in two.
-use Prim.Native.Nat.{ℕ, _+_, _*_, _≤_}
+use Prim.Native.Nat.{ℕ, _≤_}
 use mathlib.Core.Path.{_≡_, refl, ap, sym, _∙_}
 use mathlib.Core.List.{List, [], _∷_, _++_}
 use native.Mathlib.Omega.{arith}
 use lib.ListN.{length, take, drop, length-append, take-append-drop}
 use lib.Seq.{length-take-le, take-nil, take-append-seam, drop-append-seam}
 use Rattle.defs.specs.Refusal.{kept}
-use Rattle.defs.specs.Slip.{longestSlip, widthIn, depthIn, countIn, sizeIn}
+use Rattle.defs.specs.Slip.{longestSlip, sizeIn}
 use Rattle.defs.specs.Read.{firstVerdict}
 use Rattle.defs.specs.Roll.{rollVerdict, firstPart, restPart}
 use Rattle.defs.specs.declared.Refusal.{Refusal}
 use Rattle.defs.specs.declared.Verdict.{Verdict}
 use Rattle.defs.specs.declared.Verdict.the-variants.{Fine, Refused}
-use Rattle.theory.proofs.Limits.{numbers-known, count-small}
-use Rattle.slip.proofs.Writer.{size-top}
-use Rattle.slip.proofs.Reader.{begins}
+use Rattle.slip.proofs.Reader.{header-top, begins}
 
 -- ---- the verdict
 
@@ -67,13 +65,10 @@ module _ (roll : List ℕ) where
     pub first-long : length (firstPart roll) ≡ sizeIn roll
     first-long = rw first-found (length-take-le (sizeIn roll) roll (begins roll e .size))
 
--- a slip has at most 259 bytes, and so has a first part
+-- a first part is no longer than the longest slip
 pub first-top : (roll : List ℕ) → length (firstPart roll) ≤ longestSlip
-unfolding sizeIn
 first-top roll = go (firstVerdict roll) refl
   where
     go : (v : Verdict) → firstVerdict roll ≡ v → length (firstPart roll) ≤ longestSlip
-    go Fine e =
-        let n = numbers-known _ _ _ _ (begins roll e .fine) in
-        omega (arith, first-long roll e, size-top (widthIn roll) (countIn roll + depthIn roll * countIn roll) (n .width) (omega (arith, count-small n, n .row-top)))
+    go Fine e = omega (arith, first-long roll e, header-top roll (begins roll e .fine))
     go (Refused x) e = omega (arith, ap length (none-found roll x e))

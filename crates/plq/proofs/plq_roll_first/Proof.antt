@@ -1,35 +1,40 @@
+-- `plq_roll_first`: a number and a slip's size are small enough to be packed.
+use Prim.Native.Nat.{_≤_}
+use native.Mathlib.Omega.{arith}
+use Rattle.defs.specs.Slip.{slipSize}
+use Rattle.defs.specs.declared.Answer.{Answer}
+use Rattle.roll.proofs.Parts.{first-top}
+use Rattle.plq.proofs.Small.{number-small}
 use borrow.Author.Needs.{needs}
 use Rattle.plq.proofs.plq_roll_first.Statement.{statement}
 use Rattle.plq.proofs.plq_roll_first.Tie as tie
-use Rattle.plq.proofs.plq_roll_first.Reads as reads
-use Rattle.plq.proofs.plq_roll_first.Lts as lts
-use Rattle.answers.proofs.number_in.Reads as number-in-reads
-use Rattle.roll.proofs.first_size.Reads as first-size-reads
-use Rattle.roll.proofs.roll_answer.Reads as roll-answer-reads
 
--- src/lib.rt:110:37
+-- where both are known
+module _ (c : tie.After-first-size) where
+  abbrev answered : Answer
+  answered = c .before .before .roll-answer .result
+
+  small : c .first-size .result ≤ 259
+  unfolding slipSize
+  small = omega (arith, c .first-size .ensures, first-top (c .before .before .before .before .args .roll .now))
+
 roll-answer-requires : tie.Need-roll-answer-requires
 roll-answer-requires c κs = search needs
 
--- src/lib.rt:110:18
 number-in-requires : tie.Need-number-in-requires
 number-in-requires c κs = search needs
 
--- src/lib.rt:111:16
 first-size-requires : tie.Need-first-size-requires
 first-size-requires c κs = search needs
 
--- src/lib.rt:112:14
 mul-result : tie.Need-mul-result
-mul-result c = search needs
+mul-result c = omega (arith, small c)
 
--- src/lib.rt:112:5
 add-result : tie.Need-add-result
-add-result c = search needs
+add-result c = omega (arith, small c, number-small (answered c), c .before .number-in .ensures)
 
--- src/lib.rt:106:1
 returns : tie.Need-returns
-returns c = search needs
+returns c = rw (c .before .number-in .ensures, c .before .before .roll-answer .ensures, c .first-size .ensures)
 
 pub plq-roll-first-spec : {M : Type 1} → statement M
 plq-roll-first-spec =
