@@ -4,7 +4,6 @@ ghost use mathlib.Core.List.{[], _∷_};
 ghost use Prim.Native.Nat.{_+_, _<_, _≤_};
 ghost use lib.ListN.{length};
 ghost use Rattle.defs.specs.Limits.{longest};
-ghost use Rattle.defs.specs.Write.{front};
 ghost use Rattle.defs.specs.Line.{decimal, spaced, listed, heading, lineOf, Lined};
 ghost use Rattle.defs.specs.declared.Answer.the-variants.{Done, Refused as No};
 ghost use Rattle.line.specs.Text.{room, Wrote, Handed, Roomy, RowText, Taken, SlipText, Text};

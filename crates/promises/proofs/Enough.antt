@@ -1,5 +1,5 @@
 -- A byte more than the longest slip has decides how a slip is read: what is longer is refused, and by the same number.
-use Prim.Native.Nat.{ℕ, _+_, _*_, _<_, _≤_}
+use Prim.Native.Nat.{ℕ, _+_, _<_, _≤_}
 use mathlib.Core.Bool.{Bool, true, false, not}
 use mathlib.Core.Path.{_≡_, refl, sym, _∙_}
 use mathlib.Core.List.{List}
@@ -15,9 +15,8 @@ use Rattle.defs.specs.Read.{firstVerdict, headVerdict, readVerdict}
 use Rattle.defs.specs.declared.Refusal.the-variants.{SlipShort, Edition, SlipLong}
 use Rattle.defs.specs.declared.Verdict.{Verdict}
 use Rattle.defs.specs.declared.Verdict.the-variants.{Fine, Refused}
-use Rattle.theory.proofs.Limits.{numbers-known, count-small}
 use Rattle.theory.proofs.Verdict.{apart, refuse-fine, then-fine}
-use Rattle.slip.proofs.Writer.{size-top}
+use Rattle.slip.proofs.Reader.{header-top}
 use Rattle.promises.proofs.Header.{head-kept}
 
 abbrev pub enoughBytes : ℕ
@@ -37,11 +36,10 @@ module _ (bytes : List ℕ) (long : longestSlip < length bytes) where
   by-numbers : (v : Verdict) → numbersVerdict (widthIn bytes) (depthIn bytes) (dimensionIn bytes) (countIn bytes) ≡ v
       → andThen (andThen v (refuse (ltb (length bytes) (sizeIn bytes)) SlipShort Fine)) (refuse (ltb (sizeIn bytes) (length bytes)) SlipLong Fine)
       ≡ andThen v (Refused SlipLong)
-  unfolding andThen refuse sizeIn
+  unfolding andThen refuse
   by-numbers (Refused x) e = refl
   by-numbers Fine e =
-      let n = numbers-known _ _ _ _ e in
-      let top : sizeIn bytes ≤ longestSlip = size-top (widthIn bytes) (countIn bytes + depthIn bytes * countIn bytes) (n .width) (omega (arith, count-small n, n .row-top)) in
+      let top : sizeIn bytes ≤ longestSlip = header-top bytes e in
       rw (le-ltb (length bytes) (sizeIn bytes) (omega arith), lt-ltb (sizeIn bytes) (length bytes) (omega arith))
 
   head-long : headVerdict bytes ≡ longVerdict (editionIn bytes) (widthIn bytes) (depthIn bytes) (dimensionIn bytes) (countIn bytes)

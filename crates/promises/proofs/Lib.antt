@@ -12,3 +12,4 @@ pub mod Line
 pub mod Packed
 pub mod Unpacked
 pub mod Roll
+pub mod Walk

@@ -1,15 +1,16 @@
 -- What is known of every outcome of the call: there is one, the first 260 bytes decide it, a refusal changes no buffer, and a buffer
 -- of 6 bytes for each symbol of the longest row and 8 has room for it.
-use Prim.Native.Nat.{ℕ, _≤_}
+use Prim.Native.Nat.{ℕ, _<_, _≤_}
 use mathlib.Core.Path.{_≡_, sym, _∙_}
 use mathlib.Core.List.{List}
-use native.Mathlib.Decide.{decLe}
+use native.Mathlib.Decide.{decLt}
 use native.Mathlib.Omega.{arith}
 use lib.ListN.{length, take}
 use lib.Seq.{take-all}
 use borrow.Author.Tests.{le-ltb}
 use Rattle.defs.specs.Refusal.{refuse, answer}
 use Rattle.defs.specs.Limits.{longest}
+use Rattle.defs.specs.Slip.{slipSize, longestSlip}
 use Rattle.defs.specs.Read.{readVerdict}
 use Rattle.defs.specs.Line.{RowLine, decoded, Line, refused, read, lineVerdict, Lined}
 use Rattle.defs.specs.declared.Refusal.{Refusal}
@@ -20,7 +21,7 @@ use Rattle.theory.proofs.Verdict.{apart, kept-refused}
 use Rattle.line.specs.Text.{room}
 use Rattle.line.proofs.Lines.{line-short}
 use Rattle.promises.proofs.Decode.{decode-same-line}
-use Rattle.promises.proofs.Enough.{enough, long-refused}
+use Rattle.promises.proofs.Enough.{enoughBytes, enough, long-refused}
 
 -- ---- one outcome
 
@@ -47,21 +48,21 @@ alike : (s t text : List ℕ) → readVerdict s longest longest ≡ readVerdict 
 alike s t text e never (refused x v q) = refused x (sym e ∙ v) q
 alike s t text e never (read v row) = absurd (never v)
 
-front-line : (bytes text : List ℕ) → (Line bytes text → Line (take 260 bytes) text) × (Line (take 260 bytes) text → Line bytes text)
-front-line bytes text = go (decLe 260 (length bytes))
+front-line : (bytes text : List ℕ) → (Line bytes text → Line (take enoughBytes bytes) text) × (Line (take enoughBytes bytes) text → Line bytes text)
+front-line bytes text = go (decLt longestSlip (length bytes))
   where
-    go : Dec (260 ≤ length bytes) → (Line bytes text → Line (take 260 bytes) text) × (Line (take 260 bytes) text → Line bytes text)
+    go : Dec (longestSlip < length bytes) → (Line bytes text → Line (take enoughBytes bytes) text) × (Line (take enoughBytes bytes) text → Line bytes text)
     go (yes l) =
         let same = enough bytes l longest longest in (
           alike _ _ text (sym same) (long-refused bytes l longest longest),
           alike _ _ text same (λ e. long-refused bytes l longest longest (sym same ∙ e)),
         )
-    go (no l) = rw (take-all 260 bytes (omega arith)) (λ x. x, λ x. x)
+    go (no l) = rw (take-all enoughBytes bytes (omega arith)) (λ x. x, λ x. x)
 
-pub line-decided : (s t text : List ℕ) → take 260 s ≡ take 260 t → Line s text → Line t text
+pub line-decided : (s t text : List ℕ) → take enoughBytes s ≡ take enoughBytes t → Line s text → Line t text
 line-decided s t text e x = front-line t text .1 (rw e at (front-line s text .0 x))
 
-pub lined-decided : (s t buffer : List ℕ) (a : Answer) (b : List ℕ) → take 260 s ≡ take 260 t → Lined s buffer a b → Lined t buffer a b
+pub lined-decided : (s t buffer : List ℕ) (a : Answer) (b : List ℕ) → take enoughBytes s ≡ take enoughBytes t → Lined s buffer a b → Lined t buffer a b
 lined-decided s t buffer a b e u = record {
   text = u .text;
   is-line = line-decided s t (u .text) e (u .is-line);

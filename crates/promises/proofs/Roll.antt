@@ -1,28 +1,31 @@
--- Rolls: the header alone finds where a slip ends, the slips found and what is left are the roll, and what the writer made is found again.
-use Prim.Native.Nat.{ℕ, zero, suc, _<_, _≤_}
+-- The first slip of a roll: one outcome, its header alone finds where it ends, what stands behind it changes nothing, and 12 is never answered.
+use Prim.Native.Nat.{ℕ, _<_, _≤_}
+use mathlib.Core.Bool.{Bool, true, _||_}
 use mathlib.Core.Path.{_≡_, refl, ap, sym, _∙_}
-use mathlib.Core.List.{List, [], _∷_, _++_, append-assoc}
-use native.Mathlib.Decide.{decLt, ℕ-discrete}
+use mathlib.Core.List.{List, [], _∷_, _++_}
+use native.Mathlib.Decide.{decLt}
 use native.Mathlib.Omega.{arith}
-use lib.Dec.{eqb}
-use lib.ListN.{length, getD, take, drop, length-append}
-use lib.Seq.{take-all, take-append-seam, drop-append-seam}
-use borrow.Author.Tests.{eq-eqb, ne-eqb}
-use Rattle.defs.specs.Refusal.{answer, kept}
-use Rattle.defs.specs.Slip.{slipSize, sizeIn}
-use Rattle.defs.specs.Write.{Written}
-use Rattle.defs.specs.Read.{firstVerdict, headVerdict}
-use Rattle.defs.specs.Roll.{rollVerdict, firstPart, restPart, Walk, walkEnd, walkOn, walkFor, walk, joined}
+use lib.Dec.{eqb, ltb}
+use lib.ListN.{length, take, drop, length-append}
+use lib.Seq.{take-all, take-append-seam, take-append-le, drop-append-seam}
+use borrow.Author.Tests.{le-ltb}
+use Rattle.defs.specs.Refusal.{numberOf, number, refuse, andThen, answer, kept}
+use Rattle.defs.specs.Limits.{numbersVerdict}
+use Rattle.defs.specs.Slip.{slipSize, longestSlip, widthIn, depthIn, countIn, dimensionIn, sizeIn}
+use Rattle.defs.specs.Read.{firstVerdict, headVerdict, readVerdict}
+use Rattle.defs.specs.Line.{lineOf, Line, refused}
+use Rattle.defs.specs.Roll.{rollVerdict, firstPart, restPart}
 use Rattle.defs.specs.declared.Refusal.{Refusal}
+use Rattle.defs.specs.declared.Refusal.the-variants.{SlipShort}
 use Rattle.defs.specs.declared.Verdict.{Verdict}
 use Rattle.defs.specs.declared.Verdict.the-variants.{Fine, Refused}
 use Rattle.defs.specs.declared.Answer.{Answer}
-use Rattle.defs.specs.declared.Answer.the-variants.{Done}
-use Rattle.theory.proofs.Verdict.{then-fine}
-use Rattle.slip.proofs.Reader.{Begins, begins, begun, head-fine, sound}
-use Rattle.roll.proofs.Parts.{none-found, parts-join, first-within, rest-left, first-found, first-long}
+use Rattle.defs.specs.declared.Answer.the-variants.{Refused as No}
+use Rattle.theory.proofs.Verdict.{apart, then-fine, answer-refused, Every, every-fine}
+use Rattle.slip.proofs.Reader.{Begins, header-top, begins, begun, head-fine, sound}
+use Rattle.slip.proofs.Refusals.{first-every}
+use Rattle.roll.proofs.Parts.{others-first, none-found, parts-join, first-within, rest-left, first-found, first-long}
 use Rattle.promises.proofs.Header.{SameHead, head-front, head-same, size-same, numbers-same}
-use Rattle.promises.proofs.RoundTrip.{written-whole}
 
 -- ---- one outcome
 
@@ -82,30 +85,34 @@ module _ (a b : List ℕ) (l : length a ≡ length b) (h : take 3 a ≡ take 3 b
   pub header-decides : (answer (rollVerdict a) 0 ≡ answer (rollVerdict b) 0) × (length (firstPart a) ≡ length (firstPart b))
   header-decides = (ap (λ v. answer v 0) (rolls-same a b l first-same), by-verdict (firstVerdict b) first-same refl)
 
+-- ---- what stands behind
+
+-- bytes that begin with a slip still do so in front of others
+begins-front : (s t : List ℕ) → Begins s → Begins (s ++ t)
+begins-front s t b =
+    let h = head-front s t (b .long) in
+    record {
+      long = omega (arith, b .long, length-append s t);
+      edition = h .edition ∙ b .edition;
+      fine = numbers-same h ∙ b .fine;
+      size = omega (arith, size-same h, b .size, length-append s t);
+    }
+
 -- a slip is found in front of whatever stands behind it
 module _ (s t : List ℕ) (e : headVerdict s ≡ Fine) where
-  alone : Begins s
+  pub alone : Begins s
   unfolding headVerdict
   alone = begins s (then-fine (firstVerdict s) _ e .0)
 
-  same : SameHead (s ++ t) s
-  same = head-front s t (alone .long)
-
   front-fine : firstVerdict (s ++ t) ≡ Fine
-  front-fine =
-      begun (s ++ t)
-      record {
-        long = omega (arith, alone .long, length-append s t);
-        edition = same .edition ∙ alone .edition;
-        fine = numbers-same same ∙ alone .fine;
-        size = omega (arith, size-same same, alone .size, length-append s t);
-      }
+  front-fine = begun (s ++ t) (begins-front s t alone)
 
-  front-first : firstPart (s ++ t) ≡ s
+  pub front-first : firstPart (s ++ t) ≡ s
   front-first =
-      first-found (s ++ t) front-fine ∙ ap (λ n. take n (s ++ t)) (size-same same ∙ sym (sound s e .size)) ∙ take-append-seam s t
+      first-found (s ++ t) front-fine
+      ∙ ap (λ n. take n (s ++ t)) (size-same (head-front s t (alone .long)) ∙ sym (sound s e .size)) ∙ take-append-seam s t
 
-  front-rest : restPart (s ++ t) ≡ t
+  pub front-rest : restPart (s ++ t) ≡ t
   front-rest = sym (rest-left (s ++ t)) ∙ ap (λ (u : List ℕ). drop (length u) (s ++ t)) front-first ∙ drop-append-seam s t
 
 -- and what is found is a slip: the reader does not refuse it by 10, 11, 1, 3, 4 or 12
@@ -117,101 +124,64 @@ first-whole roll e =
     let whole : firstVerdict s ≡ Fine = begun s record { long = first-some roll e; edition = sym (q .edition) ∙ b .edition; fine = sym (numbers-same q) ∙ b .fine; size = omega (arith, size-same q, first-long roll e) } in
     sym (head-fine s whole (omega (arith, size-same q, first-long roll e)))
 
--- ---- the walk
+-- ---- with the longest slip in sight the rest of the roll changes nothing
 
-module _ (t : ℕ) (roll : List ℕ) where
-  step-end : length (firstPart roll) ≡ 0 → walkFor (suc t) roll ≡ walkEnd roll
-  unfolding walkFor
-  step-end e = rw (eq-eqb (length (firstPart roll)) 0 e)
+-- so many bytes are never short of their size
+unsized : (bytes : List ℕ) → longestSlip ≤ length bytes → (v : Verdict) → numbersVerdict (widthIn bytes) (depthIn bytes) (dimensionIn bytes) (countIn bytes) ≡ v
+    → andThen v (refuse (ltb (length bytes) (sizeIn bytes)) SlipShort Fine) ≡ v
+unfolding andThen refuse
+unsized bytes l (Refused x) e = refl
+unsized bytes l Fine e = rw (le-ltb (length bytes) (sizeIn bytes) (omega (arith, header-top bytes e)))
 
-  step-on : (length (firstPart roll) ≡ 0 → ⊥) → walkFor (suc t) roll ≡ walkOn (firstPart roll) (walkFor t (restPart roll))
-  unfolding walkFor
-  step-on n = rw (ne-eqb (length (firstPart roll)) 0 n)
+module _ (s t : List ℕ) (l : longestSlip ≤ length s) where
+  three : 3 ≤ length s
+  unfolding slipSize
+  three = omega arith
 
--- a first part is there only where the roll begins with a slip
-some-fine : (roll : List ℕ) (v : Verdict) → firstVerdict roll ≡ v → (length (firstPart roll) ≡ 0 → ⊥) → firstVerdict roll ≡ Fine
-some-fine roll Fine e n = e
-some-fine roll (Refused x) e n = absurd (n (ap length (none-found roll x e)))
+  verdict-front : firstVerdict (s ++ t) ≡ firstVerdict s
+  unfolding firstVerdict
+  verdict-front =
+      let h = head-front s t three in
+      let l′ : longestSlip ≤ length (s ++ t) = omega (arith, length-append s t) in
+      rw (unsized (s ++ t) l′ _ refl, unsized s l _ refl, le-ltb (length (s ++ t)) 3 (omega (arith, three, length-append s t)), le-ltb (length s) 3 three, h .edition, numbers-same h)
 
--- what holds at the end and is kept by a slip found holds of the walk: so many turns as there are bytes are enough
-module _ (P : List ℕ → Walk → Type 0) (end : (roll : List ℕ) → length (firstPart roll) ≡ 0 → P roll (walkEnd roll))
-    (on : (roll : List ℕ) (w : Walk) → firstVerdict roll ≡ Fine → P (restPart roll) w → P roll (walkOn (firstPart roll) w)) where
-  one-turn : (t : ℕ) (roll : List ℕ) → length roll ≤ suc t → (length (restPart roll) ≤ t → P (restPart roll) (walkFor t (restPart roll)))
-      → Dec (length (firstPart roll) ≡ 0) → P roll (walkFor (suc t) roll)
-  one-turn t roll l h (yes e) = rw (step-end t roll e) (end roll e)
-  one-turn t roll l h (no n) =
-      rw (step-on t roll n)
-      (on roll (walkFor t (restPart roll)) (some-fine roll _ refl n) (h (omega (arith, length-append (firstPart roll) (restPart roll), ap length (parts-join roll)))))
+  part-front : (v : Verdict) → firstVerdict s ≡ v → firstPart (s ++ t) ≡ firstPart s
+  part-front Fine e =
+      first-found (s ++ t) (verdict-front ∙ e)
+      ∙ ap (λ n. take n (s ++ t)) (size-same (head-front s t three)) ∙ take-append-le (sizeIn s) s t (begins s e .size) ∙ sym (first-found s e)
+  part-front (Refused x) e = none-found (s ++ t) x (verdict-front ∙ e) ∙ sym (none-found s x e)
 
-  walk-by : (t : ℕ) (roll : List ℕ) → length roll ≤ t → P roll (walkFor t roll)
-  unfolding walkFor
-  walk-by zero roll l = end roll (omega (arith, first-within roll))
-  walk-by (suc t) roll l = one-turn t roll l (λ less. walk-by t (restPart roll) less) (ℕ-discrete (length (firstPart roll)) 0)
+  pub in-sight : (answer (rollVerdict (s ++ t)) 0 ≡ answer (rollVerdict s) 0) × (firstPart (s ++ t) ≡ firstPart s)
+  in-sight =
+      let e = sym (others-first (s ++ t) (λ z. omega (arith, three, length-append s t))) ∙ verdict-front ∙ others-first s (λ z. omega (arith, three)) in
+      (ap (λ v. answer v 0) e, part-front (firstVerdict s) refl)
 
--- each is the first slip of the roll from it on, and left stands behind the last one
-abbrev pub Firsts : List (List ℕ) → List ℕ → List ℕ → Type 0
-Firsts [] roll left = roll ≡ left
-Firsts (s ∷ slips) roll left = (firstVerdict roll ≡ Fine) × (s ≡ firstPart roll) × Firsts slips (restPart roll) left
+-- ---- the numbers
 
--- what a walk over a roll is
-pub record Walked (roll : List ℕ) (w : Walk) : Type 0 where
-  pub joins : joined (w .slips) ++ w .left ≡ roll
-  pub each : Firsts (w .slips) roll (w .left)
-  pub ends : w .ended ≡ rollVerdict (w .left)
-  pub done : w .ended ≡ Fine → w .left ≡ []
+-- 10, 11, 1, 3 and 4
+abbrev pub rolls : ℕ → Bool
+rolls n = eqb n 10 || (eqb n 11 || (eqb n 1 || (eqb n 3 || eqb n 4)))
 
-all-found : (roll : List ℕ) → length (firstPart roll) ≡ 0 → rollVerdict roll ≡ Fine → roll ≡ []
+roll-every : (roll : List ℕ) → Every (λ x. rolls (numberOf x) ≡ true) (rollVerdict roll)
 unfolding rollVerdict
-all-found [] n e = refl
-all-found (b ∷ s) n e = absurd (omega (arith, first-some (b ∷ s) e))
+roll-every [] = every-fine
+roll-every (b ∷ s) = first-every (b ∷ s) refl refl refl refl refl
 
--- THE SLIPS FOUND, JOINED, AND WHAT IS LEFT ARE THE ROLL, UP TO THE FIRST REFUSAL
-pub walked : (roll : List ℕ) → Walked roll (walk roll)
-unfolding walk walkEnd walkOn joined
-walked roll =
-    walk-by Walked
-    (λ roll n. record { joins = refl; each = refl; ends = refl; done = all-found roll n })
-    (λ roll w e h. record {
-      joins = append-assoc (firstPart roll) (joined (w .slips)) (w .left) ∙ ap (λ (u : List ℕ). firstPart roll ++ u) (h .joins) ∙ parts-join roll;
-      each = (e, refl, h .each);
-      ends = h .ends;
-      done = h .done;
-    })
-    (length roll) roll (omega arith)
+-- a roll is refused by these alone
+pub roll-refusals : (roll : List ℕ) (x : Refusal) → answer (rollVerdict roll) 0 ≡ No x → rolls (numberOf x) ≡ true
+roll-refusals roll x e = roll-every roll .of x (answer-refused _ 0 x e)
 
--- ---- slips that were joined
+-- and never by 12
+pub never-long : (roll : List ℕ) → number (answer (rollVerdict roll) 0) ≡ 12 → ⊥
+unfolding answer
+never-long roll e = go (rollVerdict roll) (roll-every roll) e
+  where
+    go : (v : Verdict) → Every (λ x. rolls (numberOf x) ≡ true) v → number (answer v 0) ≡ 12 → ⊥
+    go Fine h q = omega arith
+    go (Refused x) h q = apart (cc (h .of x refl, q))
 
-whole-walk : (slips : List (List ℕ)) → ((i : ℕ) → i < length slips → headVerdict (getD slips i []) ≡ Fine)
-    → (t : ℕ) → length (joined slips) ≤ t → walkFor t (joined slips) ≡ record { slips = slips; left = []; ended = Fine }
-unfolding joined walkEnd walkOn walkFor rollVerdict
-whole-walk [] h zero l = refl
-whole-walk [] h (suc t) l = step-end t [] (omega (arith, first-within []))
-whole-walk (s ∷ slips) h zero l = absurd (omega (arith, alone s [] (h 0 (omega arith)) .long, length-append s (joined slips)))
-whole-walk (s ∷ slips) h (suc t) l =
-    let e = h 0 (omega arith) in
-    let p = front-first s (joined slips) e in
-    let q = front-rest s (joined slips) e in
-    let some : 3 ≤ length s = alone s [] e .long in
-    step-on t (s ++ joined slips) (λ z. omega (arith, ap length p))
-    ∙ rw (p, q, whole-walk slips (λ i b. h (suc i) (omega arith)) t (omega (arith, length-append s (joined slips))))
-
--- bytes that the writer left, where it was done
-pub record Made (s : List ℕ) : Type 0 where
-  pub m : ℕ
-  pub r : ℕ
-  pub k : ℕ
-  pub d : ℕ
-  pub points : List ℕ
-  pub w : List ℕ
-  pub bytes : List ℕ
-  pub bytes′ : List ℕ
-  pub written : Written m r k points w bytes (Done d) bytes′
-  pub is : s ≡ take d bytes′
-
-made-whole : (s : List ℕ) → Made s → headVerdict s ≡ Fine
-made-whole s x = rw (x .is) (written-whole (x .m) (x .r) (x .k) (x .d) (x .points) (x .w) (x .bytes) (x .bytes′) (x .written))
-
--- A ROLL THAT THE WRITER MADE IS TAKEN APART INTO EXACTLY THE SLIPS WRITTEN, AND IS DONE
-pub made-walk : (slips : List (List ℕ)) → ((i : ℕ) → i < length slips → Made (getD slips i [])) → walk (joined slips) ≡ record { slips = slips; left = []; ended = Fine }
-unfolding walk
-made-walk slips h = whole-walk slips (λ i l. made-whole _ (h i l)) (length (joined slips)) (omega arith)
+-- its line is that of the reader, which refuses it by the same number
+pub refused-line : (roll : List ℕ) (x : Refusal) → answer (rollVerdict roll) 0 ≡ No x → Line roll (lineOf (No x) [] [])
+unfolding rollVerdict answer readVerdict headVerdict andThen
+refused-line [] x e = absurd (apart cc)
+refused-line (b ∷ s) x e = refused x (rw (answer-refused (firstVerdict (b ∷ s)) 0 x e)) refl

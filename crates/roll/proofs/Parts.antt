@@ -6,13 +6,13 @@ use native.Mathlib.Omega.{arith}
 use lib.ListN.{length, take, drop, length-append, take-append-drop}
 use lib.Seq.{length-take-le, take-nil, take-append-seam, drop-append-seam}
 use Rattle.defs.specs.Refusal.{kept}
-use Rattle.defs.specs.Slip.{sizeIn}
+use Rattle.defs.specs.Slip.{longestSlip, sizeIn}
 use Rattle.defs.specs.Read.{firstVerdict}
 use Rattle.defs.specs.Roll.{rollVerdict, firstPart, restPart}
 use Rattle.defs.specs.declared.Refusal.{Refusal}
 use Rattle.defs.specs.declared.Verdict.{Verdict}
 use Rattle.defs.specs.declared.Verdict.the-variants.{Fine, Refused}
-use Rattle.slip.proofs.Reader.{begins}
+use Rattle.slip.proofs.Reader.{header-top, begins}
 
 -- ---- the verdict
 
@@ -64,3 +64,11 @@ module _ (roll : List ℕ) where
 
     pub first-long : length (firstPart roll) ≡ sizeIn roll
     first-long = rw first-found (length-take-le (sizeIn roll) roll (begins roll e .size))
+
+-- a first part is no longer than the longest slip
+pub first-top : (roll : List ℕ) → length (firstPart roll) ≤ longestSlip
+first-top roll = go (firstVerdict roll) refl
+  where
+    go : (v : Verdict) → firstVerdict roll ≡ v → length (firstPart roll) ≤ longestSlip
+    go Fine e = omega (arith, first-long roll e, header-top roll (begins roll e .fine))
+    go (Refused x) e = omega (arith, ap length (none-found roll x e))

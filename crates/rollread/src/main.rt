@@ -14,11 +14,11 @@ pub struct Standing {
 fn print_first(roll: &[u8]) -> usize
     ensures { λ n. ⌜ n ≤ length (now (roll .entry)) ⌝ }
 {
-    let n = roll::first_size(roll);
-    if 0 < n {
-        printing::print_line(&roll[..n]);
+    let first = roll::roll_first(roll);
+    if 0 < first.len() {
+        printing::print_line(first);
     }
-    n
+    first.len()
 }
 
 // Prints the lines of the slips whose end is in sight: of a part that is not the roll's last, more may follow. Answers where

@@ -7,3 +7,4 @@ pub mod Writer
 pub mod Reader
 pub mod Taken
 pub mod Canonical
+pub mod Refusals

@@ -10,7 +10,7 @@ use lib.ListN.{length, take}
 use borrow.Author.Tests.{lt-ltb, le-ltb, eq-eqb, ne-eqb, ltb-false, eqb-true, not-false}
 use Rattle.defs.specs.Refusal.{refuse, andThen, kept}
 use Rattle.defs.specs.Limits.{longest, numbersVerdict, firstTwice}
-use Rattle.defs.specs.Slip.{slipSize, editionIn, widthIn, depthIn, countIn, dimensionIn, sizeIn, symbolsIn, pointsIn, rowIn, spareIn, fillIn}
+use Rattle.defs.specs.Slip.{slipSize, longestSlip, editionIn, widthIn, depthIn, countIn, dimensionIn, sizeIn, symbolsIn, pointsIn, rowIn, spareIn, fillIn}
 use Rattle.defs.specs.Write.{front}
 use Rattle.defs.specs.Read.{firstVerdict, headVerdict, readVerdict, reading, Read}
 use Rattle.defs.specs.declared.Refusal.{Refusal}
@@ -24,6 +24,7 @@ use Rattle.theory.proofs.Limits.{numbers-known, count-small}
 use Rattle.theory.proofs.Verdict.{or-false, refuse-fine, then-fine}
 use Rattle.slip.specs.declared.Head.{Head}
 use Rattle.slip.specs.Head.{Heads, Holds}
+use Rattle.slip.proofs.Writer.{size-top}
 use Rattle.slip.proofs.Front.{length-symbols, take-front}
 
 -- ---- the checks of header and size
@@ -36,6 +37,13 @@ module _ (bytes : List ℕ) (h : Head) (s : Heads bytes h) where
   pub size-in : slipSize (h .m) (h .count + h .r * h .count) ≡ sizeIn bytes
   unfolding sizeIn
   size-in = rw (s .m-is, s .r-is, s .count-is)
+
+-- a header whose numbers are fine asks for no more bytes than the longest slip has
+pub header-top : (bytes : List ℕ) → numbersVerdict (widthIn bytes) (depthIn bytes) (dimensionIn bytes) (countIn bytes) ≡ Fine → sizeIn bytes ≤ longestSlip
+unfolding sizeIn
+header-top bytes e =
+    let n = numbers-known _ _ _ _ e in
+    size-top (widthIn bytes) (countIn bytes + depthIn bytes * countIn bytes) (n .width) (omega (arith, count-small n, n .row-top))
 
 -- a header that was read, and is of edition 1
 pub record Opened (bytes : List ℕ) (h : Head) : Type 0 where
