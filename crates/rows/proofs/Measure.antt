@@ -9,8 +9,9 @@ use lib.ListN.{length, getD}
 use Rattle.defs.specs.Place.{total}
 use Rattle.defs.specs.Distance.{agree, agreeAt, damage, distance}
 use Rattle.theory.proofs.Agree.{agree-ext}
-use Rattle.rows.specs.Chunk.{chunkOf, Chunks, Rows}
-use Rattle.rows.proofs.Chunks.{chunk-at}
+use Rattle.code.specs.Chunk.{chunkOf}
+use Rattle.rows.specs.Chunk.{Chunks, Rows}
+use Rattle.code.proofs.Chunks.{chunk-at}
 
 -- chunk i ends within a row of count chunks
 pub chunk-within : (r i count n : ℕ) → i < count → count * r ≤ n → i * r + r ≤ n

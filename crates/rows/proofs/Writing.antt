@@ -21,8 +21,9 @@ use Rattle.theory.proofs.Limits.{inside-known, count-small}
 use Rattle.field.specs.Arithmetic.{Parities}
 use Rattle.code.specs.Checked.{pointsOf}
 use Rattle.rows.specs.Tables.{PowersOf, LogsFor, LogsOf}
-use Rattle.rows.specs.Chunk.{chunkOf, Evaluable, Writable}
-use Rattle.rows.proofs.Chunks.{chunk-at}
+use Rattle.code.specs.Chunk.{chunkOf}
+use Rattle.rows.specs.Chunk.{Evaluable, Writable}
+use Rattle.code.proofs.Chunks.{chunk-at}
 
 eq-lt : {a b q : ℕ} → a ≡ b → b < q → a < q
 eq-lt e h = rw e h

@@ -11,7 +11,8 @@ ghost use Rattle.defs.specs.Encode.{Encoded, distanceVerdict, distanceAnswer};
 ghost use Rattle.theory.specs.Fill.{filled};
 ghost use Rattle.code.specs.Checked.{pointsOf};
 ghost use Rattle.rows.specs.Tables.{PowersOf, LogsFor, LogsOf};
-ghost use Rattle.rows.specs.Chunk.{chunkOf, Coefficient, Evaluable, Writable, Chunks, Rows};
+ghost use Rattle.code.specs.Chunk.{chunkOf};
+ghost use Rattle.rows.specs.Chunk.{Coefficient, Evaluable, Writable, Chunks, Rows};
 use defs::Answer;
 use defs::Code;
 use defs::DEEPEST;
@@ -30,7 +31,7 @@ fn powers(m: usize) -> [u8; PLACES]
     requires { ⌜ Width m ⌝ }
     ensures { λ t. ⌜ PowersOf m t ⌝ }
 {
-    let n = 2 * (code::field_size(m) - 1);
+    let n = 2 * (field::field_size(m) - 1);
     let mut table = [0u8; PLACES];
     let mut x: u8 = 1;
     let mut i = 0;
@@ -48,7 +49,7 @@ fn logs(m: usize, powers: &[u8; PLACES]) -> [usize; 256]
     requires { ⌜ PowersOf m (now powers) ⌝ }
     ensures { λ t. ⌜ LogsFor m t ⌝ }
 {
-    let order = code::field_size(m) - 1;
+    let order = field::field_size(m) - 1;
     let mut table = [NOWHERE; 256];
     let mut i = 0;
     while i < order {
@@ -88,7 +89,7 @@ fn coefficient(
     requires { ⌜ Coefficient m point j step (now message) (now symbols) (now powers) (now parities) ⌝ }
     ensures { λ c. ⌜ c ≡ coefficient m (now (message .entry)) point j ⌝ }
 {
-    let size = code::field_size(m);
+    let size = field::field_size(m);
     let k = message.len();
     let mut sum: u8 = 0;
     let mut e = 0;
@@ -108,9 +109,9 @@ fn at_zero(r: usize, message: &[u8]) -> [u8; 8]
     ensures { λ a. ⌜ a ≡ chunkOf r (λ j. getD (now (message .entry)) j 0) ⌝ }
 {
     if message.len() < r {
-        return chunk_of(message, 0, message.len());
+        return code::chunk_of(message, 0, message.len());
     }
-    chunk_of(message, 0, r)
+    code::chunk_of(message, 0, r)
 }
 
 // The chunk of a message at a point: its first r Hasse coefficients.
@@ -135,20 +136,6 @@ pub fn evaluate(
     let mut j = 0;
     while j < r {
         chunk[j] = coefficient(m, point, j, step, message, symbols, powers, parities);
-        j += 1;
-    }
-    chunk
-}
-
-// The chunk that stands in a row from an index on.
-pub fn chunk_of(s: &[u8], at: usize, r: usize) -> [u8; 8]
-    requires { ⌜ (r ≤ deepest) × (at + r ≤ length (now s)) ⌝ }
-    ensures { λ a. ⌜ a ≡ chunkOf r (λ j. getD (now (s .entry)) (at + j) 0) ⌝ }
-{
-    let mut chunk = [0u8; 8];
-    let mut j = 0;
-    while j < r {
-        chunk[j] = s[at + j];
         j += 1;
     }
     chunk
@@ -222,8 +209,8 @@ pub fn chunk_damage(r: usize, a: &[u8], b: &[u8], i: usize) -> usize
     ensures { λ d. ⌜ d ≡ damage r (now (a .entry)) (now (b .entry)) i ⌝ }
 {
     let at = i * r;
-    let x = chunk_of(a, at, r);
-    let y = chunk_of(b, at, r);
+    let x = code::chunk_of(a, at, r);
+    let y = code::chunk_of(b, at, r);
     r - agree(x, y, r)
 }
 

@@ -58,7 +58,7 @@ fn pack(m: usize, points: &[u8], row: &[u8], i: usize) -> u8
     requires { ⌜ Width m × Symbols m (now points ++ now row) × (i < 2 ^ 32) ⌝ }
     ensures { λ b. ⌜ b ≡ numberAt 8 (8 * i) (allBits m (now (points .entry) ++ now (row .entry))) ⌝ }
 {
-    let size = code::field_size(m);
+    let size = field::field_size(m);
     let each = 8 / m;
     let from = each * i;
     let mut byte = 0;
@@ -167,7 +167,7 @@ fn read_symbol(m: usize, bytes: &[u8], j: usize) -> u8
 {
     let place = 24 + m * j;
     let byte = wide(bytes[place / 8]);
-    ((byte >> (8 - m - place % 8)) % code::field_size(m)) as u8
+    ((byte >> (8 - m - place % 8)) % field::field_size(m)) as u8
 }
 
 // Writes n symbols behind the header, past the first ones, to the front of a buffer.

@@ -10,14 +10,14 @@ use Rattle.field.proofs.times2.Tie as tie
 mul-twice : tie.Need-mul-twice
 mul-twice c = search needs
 
-size-requires : tie.Need-size-requires
-size-requires c κs = search needs
+field-size-requires : tie.Need-field-size-requires
+field-size-requires c κs = search needs
 
 cast-result : tie.Need-cast-result
 cast-result c = omega (arith, field-top _ (c .before .before .pre .0))
 
 returns : tie.Need-returns
-returns c = twice-low _ _ (rw (c .before .size .ensures) at (c .if1 .taken))
+returns c = twice-low _ _ (rw (c .before .field-size .ensures) at (c .if1 .taken))
 
 modulus-requires : tie.Need-modulus-requires
 modulus-requires c κs = search needs
@@ -27,7 +27,7 @@ unfolding D.add
 cast-result-2 c =
     let s = c .before .before .before in
     let l = c .before .if1 .left in
-    let e = twice-high _ _ (s .pre .0) (s .pre .1) (c .before .before .size .ensures) l (c .modulus .ensures) in
+    let e = twice-high _ _ (s .pre .0) (s .pre .1) (c .before .before .field-size .ensures) l (c .modulus .ensures) in
     omega (arith, e .small, field-top _ (s .pre .0))
 
 returns-2 : tie.Need-returns-2
@@ -35,9 +35,9 @@ unfolding D.add
 returns-2 c =
     let s = c .before .before .before in
     let l = c .before .if1 .left in
-    twice-high _ _ (s .pre .0) (s .pre .1) (c .before .before .size .ensures) l (c .modulus .ensures)
+    twice-high _ _ (s .pre .0) (s .pre .1) (c .before .before .field-size .ensures) l (c .modulus .ensures)
 
 pub times2-spec : {M : Type 1} → statement M
 times2-spec =
     tie.close
-    (tie.spec mul-twice size-requires cast-result returns modulus-requires cast-result-2 returns-2)
+    (tie.spec mul-twice field-size-requires cast-result returns modulus-requires cast-result-2 returns-2)

@@ -3,7 +3,7 @@ use Prim.Native.Nat.{_-_, _≤_}
 use mathlib.Core.Path.{_≡_, _∙_}
 use native.Mathlib.Omega.{arith}
 use Rattle.defs.specs.Row.{coefficient}
-use Rattle.rows.proofs.Chunks.{begun, chunk-first, chunk-more, chunk-last}
+use Rattle.code.proofs.Chunks.{begun, chunk-first, chunk-more, chunk-last}
 use Rattle.rows.proofs.Hasse.{one-coefficient, zero-chunk}
 use borrow.Author.Needs.{needs}
 use Rattle.rows.proofs.evaluate.Statement.{statement}

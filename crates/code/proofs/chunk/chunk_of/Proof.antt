@@ -1,12 +1,12 @@
--- `chunk_of` meets its contract: the first j symbols are copied.
+-- `code::chunk::chunk_of` meets its contract: the first j symbols are copied.
 use Prim.Native.Nat.{_+_, _-_, _≤_}
 use mathlib.Core.Path.{_≡_, refl}
 use native.Mathlib.Omega.{arith}
 use lib.ListN.{getD}
-use Rattle.rows.proofs.Chunks.{begun, chunk-first, chunk-more, chunk-last}
+use Rattle.code.proofs.Chunks.{begun, chunk-first, chunk-more, chunk-last}
 use borrow.Author.Needs.{needs}
-use Rattle.rows.proofs.chunk_of.Statement.{statement}
-use Rattle.rows.proofs.chunk_of.Tie as tie
+use Rattle.code.proofs.chunk.chunk_of.Statement.{statement}
+use Rattle.code.proofs.chunk.chunk_of.Tie as tie
 
 abbrev Inv-loop : tie.InvT-loop
 Inv-loop s at r chunk₀ j₀ chunk j = (j ≤ r) × (chunk ≡ begun j (λ i. getD s (at + i) 0))
