@@ -26,7 +26,7 @@ length-chunk : (r : ℕ) (F : ℕ → ℕ) → r ≤ deepest → length (chunkOf
 unfolding chunkOf
 length-chunk r F h = length-append (tab F r) (drop r blank) ∙ omega (arith, length-tab F r, length-drop r blank, length-blank)
 
-chunk-behind : (r : ℕ) (F : ℕ → ℕ) (j : ℕ) → r ≤ j → getD (chunkOf r F) j 0 ≡ 0
+pub chunk-behind : (r : ℕ) (F : ℕ → ℕ) (j : ℕ) → r ≤ j → getD (chunkOf r F) j 0 ≡ 0
 unfolding chunkOf blank
 chunk-behind r F j l =
     let e : j ≡ length (tab F r) + (j - r) = omega (arith, length-tab F r) in

@@ -17,7 +17,7 @@ use tables::POWERS4;
 use tables::POWERS16;
 ghost use mathlib.Core.Path.{_≡_};
 ghost use Prim.Native.Nat.{_+_, _*_, _-_, _^_, _<_, _≤_};
-ghost use Rattle.defs.specs.Field.{Width, modulus, times2, mul, pow};
+ghost use Rattle.defs.specs.Field.{Width, times2, mul, pow};
 ghost use Rattle.field.specs.Arithmetic.{Element, Inverse, Logarithm, Powers, Logarithms};
 ghost use Rattle.field.specs.Arithmetic.{Parities, Products, Doubled};
 ghost use lib.ListN.{length};
@@ -132,30 +132,35 @@ pub fn inverse(m: usize, a: u8) -> u8
     exp(m, field_size(m) - 1 - log(m, a) as usize)
 }
 
-fn modulus(m: usize) -> usize
+// The least element whose double is reduced.
+fn half(m: usize) -> u8
     requires { ⌜ Width m ⌝ }
-    ensures { λ r. ⌜ r ≡ modulus m ⌝ }
+    ensures { λ h. ⌜ h * 2 ≡ 2 ^ m ⌝ }
 {
     if m == 2 {
-        return 7;
+        return 2;
     }
     if m == 4 {
-        return 19;
+        return 8;
     }
-    285
+    128
 }
 
-// 2 a, without a table.
+// 2 a, by operations on bytes alone, so that a loop over a row doubles many entries at a time. 29 and 3 are the moduli without bit m.
 pub fn times2(m: usize, a: u8) -> u8
     requires { ⌜ Width m ⌝ }
     requires { ⌜ a < 2 ^ m ⌝ }
     ensures { λ r. ⌜ Element m (times2 m a) r ⌝ }
 {
-    let twice = a as usize * 2;
-    if twice < field_size(m) {
-        return twice as u8;
+    let top = half(m);
+    if a < top {
+        return a + a;
     }
-    (twice ^ modulus(m)) as u8
+    let rest = a - top;
+    if m == 8 {
+        return (rest + rest) ^ 29;
+    }
+    (rest + rest) ^ 3
 }
 
 // The first size entries once more behind them, each with step added.

@@ -1,4 +1,5 @@
 -- The laws of the definitions.
+pub mod Order
 pub mod Field
 pub mod Width
 pub mod Generator

@@ -1,7 +1,7 @@
--- `solve::half` meets its contract.
+-- `field::half` meets its contract: each width has its half.
 use Rattle.theory.proofs.Width.{width-8}
-use Rattle.solve.proofs.half.Statement.{statement}
-use Rattle.solve.proofs.half.Tie as tie
+use Rattle.field.proofs.half.Statement.{statement}
+use Rattle.field.proofs.half.Tie as tie
 
 returns : tie.Need-returns
 returns c = rw (c .if1 .taken)

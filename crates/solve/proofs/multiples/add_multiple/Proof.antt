@@ -1,4 +1,4 @@
--- `solve::add_multiple` meets its contract.
+-- `solve::multiples::add_multiple` meets its contract.
 use Prim.Native.Nat.{_+_, _*_, _-_, _≤_}
 use native.Mathlib.Omega.{arith}
 use borrow.Author.Needs.{needs}
@@ -6,8 +6,8 @@ use Rattle.theory.proofs.Width.{field-top}
 use Rattle.defs.specs.Field.{add}
 use Rattle.solve.specs.Table.{stride}
 use Rattle.solve.proofs.Writes.{Adds, wrote-none, adds-more, wrote-added}
-use Rattle.solve.proofs.add_multiple.Statement.{statement}
-use Rattle.solve.proofs.add_multiple.Tie as tie
+use Rattle.solve.proofs.multiples.add_multiple.Statement.{statement}
+use Rattle.solve.proofs.multiples.add_multiple.Tie as tie
 
 abbrev Inv-loop : tie.InvT-loop
 Inv-loop t₀ w m start cols r p f base low high j₀ t j =

@@ -1,10 +1,10 @@
--- `solve::multiples` meets its contract.
+-- `solve::multiples::multiples` meets its contract.
 use mathlib.Core.Path.{_∙_}
 use native.Mathlib.Omega.{arith}
 use borrow.Author.Needs.{needs}
 use Rattle.solve.proofs.Sixteens.{made}
-use Rattle.solve.proofs.multiples.Statement.{statement}
-use Rattle.solve.proofs.multiples.Tie as tie
+use Rattle.solve.proofs.multiples.multiples.Statement.{statement}
+use Rattle.solve.proofs.multiples.multiples.Tie as tie
 
 copied-requires : tie.Need-copied-requires
 copied-requires c κs = search needs

@@ -1,14 +1,15 @@
--- `solve::copied` meets its contract.
+-- `solve::multiples::copied` meets its contract.
 use mathlib.Core.Path.{refl, _∙_}
 use Prim.Native.Nat.{_+_, _*_, _-_, _≤_}
 use native.Mathlib.Omega.{arith}
 use borrow.Author.Needs.{needs}
 use lib.ListN.{getD, replicate}
+use Rattle.theory.proofs.Place.{zeros-zero, zeros-symbols}
 use Rattle.solve.specs.Table.{stride}
 use Rattle.solve.specs.Multiples.{multiplesSize}
-use Rattle.solve.proofs.Writes.{Wrote, wrote-none, wrote-more, zeros, zeros-lt}
-use Rattle.solve.proofs.copied.Statement.{statement}
-use Rattle.solve.proofs.copied.Tie as tie
+use Rattle.solve.proofs.Writes.{Wrote, wrote-none, wrote-more}
+use Rattle.solve.proofs.multiples.copied.Statement.{statement}
+use Rattle.solve.proofs.multiples.copied.Tie as tie
 
 abbrev Inv-loop : tie.InvT-loop
 Inv-loop t m start cols c w₀ from j₀ w j =
@@ -21,7 +22,7 @@ mul-from : tie.Need-mul-from Inv-loop μ-loop
 mul-from c = search needs
 
 loop-holds : tie.Need-loop-holds Inv-loop μ-loop
-loop-holds c = (search needs, search needs, wrote-none _ _ _ _ refl (zeros-lt _ multiplesSize))
+loop-holds c = (search needs, search needs, wrote-none _ _ _ _ refl (zeros-symbols _ multiplesSize))
 
 add-w : tie.Need-add-w Inv-loop μ-loop
 add-w c = search needs
@@ -56,7 +57,7 @@ returns c =
       record { width = st .pre .0 .width; size = W .size; symbols = W .symbols },
       record {
         row = λ j s l. W .inside j s (omega arith);
-        others = λ i j o l. W .outside (i * stride + j) (λ k a b e. o (omega arith)) ∙ zeros multiplesSize (i * stride + j);
+        others = λ i j o l. W .outside (i * stride + j) (λ k a b e. o (omega arith)) ∙ zeros-zero multiplesSize (i * stride + j);
       },
     )
 

@@ -1,4 +1,4 @@
--- `solve::set_multiple` meets its contract.
+-- `solve::multiples::set_multiple` meets its contract.
 use mathlib.Core.Path.{ap, ap₂, _∙_}
 use Prim.Native.Nat.{_+_, _*_, _-_, _≤_}
 use native.Mathlib.Omega.{arith}
@@ -9,8 +9,8 @@ use Rattle.theory.proofs.Field.{add-lt}
 use Rattle.solve.specs.Table.{stride}
 use Rattle.solve.specs.Multiples.{multiplesSize}
 use Rattle.solve.proofs.Writes.{Wrote, wrote-none, wrote-more}
-use Rattle.solve.proofs.set_multiple.Statement.{statement}
-use Rattle.solve.proofs.set_multiple.Tie as tie
+use Rattle.solve.proofs.multiples.set_multiple.Statement.{statement}
+use Rattle.solve.proofs.multiples.set_multiple.Tie as tie
 
 abbrev Inv-loop : tie.InvT-loop
 Inv-loop w₀ m start cols x half one to from other j₀ w j =
@@ -44,8 +44,8 @@ add-b c = search needs
 element-copy-out-b : tie.Need-element-copy-out-b Inv-loop μ-loop
 element-copy-out-b c = search needs
 
-twice-requires : tie.Need-twice-requires Inv-loop μ-loop
-twice-requires c κs =
+times2-requires : tie.Need-times2-requires Inv-loop μ-loop
+times2-requires c κs =
     let al = c .before .before .before in
     (al .before .pre .0 .width, al .loop .inv .2 .symbols _)
 
@@ -67,7 +67,7 @@ loop-again c =
     let al = c .before .before .before .before in
     let st = al .before in
     let W = al .loop .inv .2 in
-    let E = c .twice .ensures in (
+    let E = c .times2 .ensures in (
       omega arith,
       omega arith,
       wrote-more _ _ (λ i. st .args .x * stride + i) _ W (al .loop .inv .0) (omega arith) (λ j l e. omega arith)
@@ -100,7 +100,7 @@ set-multiple-spec =
     element-copy-out-a
     add-b
     element-copy-out-b
-    twice-requires
+    times2-requires
     add-w
     element-write-w
     add-j

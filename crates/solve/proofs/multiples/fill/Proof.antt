@@ -1,4 +1,4 @@
--- `solve::fill` meets its contract.
+-- `solve::multiples::fill` meets its contract.
 use mathlib.Core.Path.{_≡_}
 use Prim.Native.Nat.{_-_, _≤_}
 use native.Mathlib.Omega.{arith}
@@ -6,8 +6,8 @@ use borrow.Author.Needs.{needs}
 use Rattle.solve.specs.Table.{at}
 use Rattle.solve.specs.Multiples.{Rows, Filled}
 use Rattle.solve.proofs.Sixteens.{filled-first, filled-next}
-use Rattle.solve.proofs.fill.Statement.{statement}
-use Rattle.solve.proofs.fill.Tie as tie
+use Rattle.solve.proofs.multiples.fill.Statement.{statement}
+use Rattle.solve.proofs.multiples.fill.Tie as tie
 
 abbrev Inv-loop : tie.InvT-loop
 Inv-loop w₀ m start cols base x₀ w x = (2 ≤ x) × (x ≤ 16) × Rows m w × Filled m start cols base x (at w₀) (at w)
