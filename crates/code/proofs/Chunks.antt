@@ -3,7 +3,7 @@ use Prim.Native.Nat.{ℕ, _+_, _-_, _<_, _≤_}
 use mathlib.Core.Path.{_≡_, refl, ap, sym, _∙_}
 use mathlib.Core.List.{List, _++_}
 use native.Mathlib.Decide.{decLt}
-use native.Mathlib.Nat.{zero-add}
+use native.Mathlib.Nat.{zero-add, add-sub-of-le}
 use native.Mathlib.Omega.{arith}
 use lib.ListN.{length, getD, drop, set, replicate, length-append, length-drop, List·getD-append, List·getD-eq-default}
 use lib.Seq.{ext-getD, getD-append-add, getD-drop}
@@ -18,9 +18,20 @@ pub length-blank : length blank ≡ deepest
 unfolding blank
 length-blank = refl
 
+-- what stands in a list whose first n values are new
+module _ (d : List ℕ) (F : ℕ → ℕ) (n i : ℕ) where
+  pub new-front : i < n → getD (tab F n ++ drop n d) i 0 ≡ F i
+  new-front l = List·getD-append (tab F n) (drop n d) 0 i (omega (arith, length-tab F n)) ∙ getD-tab F n i l
+
+  pub old-behind : n ≤ i → getD (tab F n ++ drop n d) i 0 ≡ getD d i 0
+  old-behind l =
+      let e : i ≡ length (tab F n) + (i - n) = omega (arith, length-tab F n) in
+      ap (λ (x : ℕ). getD (tab F n ++ drop n d) x 0) e ∙ getD-append-add (tab F n) (drop n d) (i - n) 0
+      ∙ getD-drop n d (i - n) 0 ∙ ap (λ (x : ℕ). getD d x 0) (add-sub-of-le l)
+
 pub chunk-at : (r : ℕ) (F : ℕ → ℕ) (j : ℕ) → j < r → getD (chunkOf r F) j 0 ≡ F j
 unfolding chunkOf
-chunk-at r F j l = List·getD-append (tab F r) (drop r blank) 0 j (omega (arith, length-tab F r)) ∙ getD-tab F r j l
+chunk-at r F j l = new-front blank F r j l
 
 length-chunk : (r : ℕ) (F : ℕ → ℕ) → r ≤ deepest → length (chunkOf r F) ≡ deepest
 unfolding chunkOf
@@ -28,10 +39,7 @@ length-chunk r F h = length-append (tab F r) (drop r blank) ∙ omega (arith, le
 
 pub chunk-behind : (r : ℕ) (F : ℕ → ℕ) (j : ℕ) → r ≤ j → getD (chunkOf r F) j 0 ≡ 0
 unfolding chunkOf blank
-chunk-behind r F j l =
-    let e : j ≡ length (tab F r) + (j - r) = omega (arith, length-tab F r) in
-    ap (λ (x : ℕ). getD (tab F r ++ drop r (replicate deepest 0)) x 0) e ∙ getD-append-add (tab F r) _ (j - r) 0
-    ∙ getD-drop r (replicate deepest 0) (j - r) 0 ∙ zeros-zero deepest (r + (j - r))
+chunk-behind r F j l = old-behind (replicate deepest 0) F r j l ∙ zeros-zero deepest j
 
 -- the first symbols of a list that ends within the chunk
 pub chunk-short : (s : List ℕ) (r : ℕ) → length s ≤ r → r ≤ deepest → chunkOf (length s) (λ j. getD s (0 + j) 0) ≡ chunkOf r (λ j. getD s j 0)

@@ -3,3 +3,4 @@ pub mod Search
 pub mod Numbers
 pub mod Outcome
 pub mod Chunks
+pub mod Known

@@ -24,7 +24,7 @@ use defs::Verdict;
 const NOWHERE: usize = 510;
 
 // The powers and the zeros behind them.
-const PLACES: usize = 766;
+const PLACES: usize = NOWHERE + 256;
 
 // The powers of 2, twice round, with zeros behind them: a constant table would be built again at each look-up.
 fn powers(m: usize) -> [u8; PLACES]
@@ -84,7 +84,7 @@ fn coefficient(
     message: &[u8],
     symbols: &[usize; LONGEST],
     powers: &[u8; PLACES],
-    parities: &[u8; 1024],
+    parities: &[u8; LONGEST * DEEPEST],
 ) -> u8
     requires { ⌜ Coefficient m point j step (now message) (now symbols) (now powers) (now parities) ⌝ }
     ensures { λ c. ⌜ c ≡ coefficient m (now (message .entry)) point j ⌝ }
@@ -104,7 +104,7 @@ fn coefficient(
 }
 
 // The chunk of a message at 0: its first r symbols.
-fn at_zero(r: usize, message: &[u8]) -> [u8; 8]
+fn at_zero(r: usize, message: &[u8]) -> [u8; DEEPEST]
     requires { ⌜ r ≤ deepest ⌝ }
     ensures { λ a. ⌜ a ≡ chunkOf r (λ j. getD (now (message .entry)) j 0) ⌝ }
 {
@@ -123,8 +123,8 @@ pub fn evaluate(
     symbols: &[usize; LONGEST],
     logs: &[usize; 256],
     powers: &[u8; PLACES],
-    parities: &[u8; 1024],
-) -> [u8; 8]
+    parities: &[u8; LONGEST * DEEPEST],
+) -> [u8; DEEPEST]
     requires { ⌜ Evaluable m r point (now message) (now symbols) (now logs) (now powers) (now parities) ⌝ }
     ensures { λ a. ⌜ a ≡ chunkOf r (coefficient m (now (message .entry)) point) ⌝ }
 {
@@ -132,7 +132,7 @@ pub fn evaluate(
         return at_zero(r, message);
     }
     let step = logs[point as usize];
-    let mut chunk = [0u8; 8];
+    let mut chunk = [0u8; DEEPEST];
     let mut j = 0;
     while j < r {
         chunk[j] = coefficient(m, point, j, step, message, symbols, powers, parities);
@@ -142,7 +142,7 @@ pub fn evaluate(
 }
 
 // The depth to which two chunks agree: s stays behind at the first symbol that differs.
-pub fn agree(a: [u8; 8], b: [u8; 8], r: usize) -> usize
+pub fn agree(a: [u8; DEEPEST], b: [u8; DEEPEST], r: usize) -> usize
     requires { ⌜ r ≤ deepest ⌝ }
     ensures { λ s. ⌜ s ≡ agree r (λ j. getD a j 0) (λ j. getD b j 0) ⌝ }
 {
@@ -160,7 +160,7 @@ pub fn agree(a: [u8; 8], b: [u8; 8], r: usize) -> usize
 }
 
 // Writes a chunk into a row.
-fn store(row: &mut [u8], at: usize, r: usize, chunk: [u8; 8])
+fn store(row: &mut [u8], at: usize, r: usize, chunk: [u8; DEEPEST])
     requires { ⌜ (r ≤ deepest) × (at + r ≤ length (now row)) ⌝ }
     ensures { λ _. ⌜ now (row .exit) ≡ filled (now (row .entry)) at (λ j. getD chunk j 0) r ⌝ }
 {

@@ -2,8 +2,11 @@
 use Prim.Native.Nat.{_+_, _-_, _<_, _≤_}
 use native.Mathlib.Omega.{arith}
 use lib.ListN.{length, take}
+use Rattle.theory.specs.Limits.{Numbers}
+use Rattle.theory.proofs.Limits.{count-small}
+use Rattle.code.proofs.Known.{code-numbers}
 use Rattle.rows.specs.Chunk.{Writable}
-use Rattle.rows.proofs.Writing.{Progress, progress-first, width, short, depth-top, count-top, room-top, chunk-fits, evaluable, written-more, written-last}
+use Rattle.rows.proofs.Writing.{Progress, progress-first, short, room-top, chunk-fits, evaluable, written-more, written-last}
 use borrow.Author.Needs.{needs}
 use Rattle.rows.proofs.write_row.Statement.{statement}
 use Rattle.rows.proofs.write_row.Tie as tie
@@ -21,6 +24,9 @@ module _ (c : tie.After-parities Inv-loop μ-loop) where
 
   abbrev given : Writable (start .args .code) (start .args .message .now) (start .args .row .now)
   given = start .pre
+
+  numbers : Numbers (start .args .code .m) (start .args .code .r) (start .args .code .k) (start .args .code .count)
+  numbers = code-numbers (given .code)
 
 -- where all tables are made
 module _ (c : tie.After-message-logs Inv-loop μ-loop) where
@@ -58,10 +64,10 @@ parities-requires : tie.Need-parities-requires Inv-loop μ-loop
 parities-requires c κs = search needs
 
 powers-requires : tie.Need-powers-requires Inv-loop μ-loop
-powers-requires c κs = width _ _ _ (given c)
+powers-requires c κs = numbers c .width
 
 logs-requires : tie.Need-logs-requires Inv-loop μ-loop
-logs-requires c κs = (width _ _ _ (given (c .before .before)), c .before .powers .ensures)
+logs-requires c κs = (numbers (c .before .before) .width, c .before .powers .ensures)
 
 message-logs-requires : tie.Need-message-logs-requires Inv-loop μ-loop
 message-logs-requires c κs = let b = given (c .before .before .before .before) in ((b .message .symbols, short _ _ _ b), c .before .logs .ensures)
@@ -70,7 +76,7 @@ loop-holds : tie.Need-loop-holds Inv-loop μ-loop
 loop-holds c = progress-first _ _ _ _ _
 
 array-read-evaluate : tie.Need-array-read-evaluate Inv-loop μ-loop
-array-read-evaluate c = omega (arith, few c, count-top _ _ _ (given (begun (tables c))))
+array-read-evaluate c = omega (arith, few c, count-small (numbers (begun (tables c))))
 
 evaluate-requires : tie.Need-evaluate-requires Inv-loop μ-loop
 evaluate-requires c κs =
@@ -81,13 +87,13 @@ evaluate-requires c κs =
 store-requires : tie.Need-store-requires Inv-loop μ-loop
 store-requires c κs =
     let t = turn (c .before .before) in
-    (depth-top _ _ _ (given (begun (tables t))), omega (arith, fits t, t .before .loop .inv .long))
+    (numbers (begun (tables t)) .r-top, omega (arith, fits t, t .before .loop .inv .long))
 
 add-at : tie.Need-add-at Inv-loop μ-loop
 add-at c = let t = turn (made c .before) in omega (arith, fits t, room-top _ _ _ (given (begun (tables t))))
 
 add-i : tie.Need-add-i Inv-loop μ-loop
-add-i c = let t = turn (made c .before) in omega (arith, few t, count-top _ _ _ (given (begun (tables t))))
+add-i c = let t = turn (made c .before) in omega (arith, few t, count-small (numbers (begun (tables t))))
 
 loop-less : tie.Need-loop-less Inv-loop μ-loop
 loop-less c = search needs
