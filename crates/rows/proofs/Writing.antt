@@ -16,7 +16,6 @@ use Rattle.theory.specs.Limits.{Numbers}
 use Rattle.theory.proofs.Place.{tab-same}
 use Rattle.theory.proofs.Row.{length-row, row-step}
 use Rattle.theory.proofs.Fill.{length-filled}
-use Rattle.field.specs.Arithmetic.{Parities}
 use Rattle.code.specs.Checked.{pointsOf}
 use Rattle.code.proofs.Known.{code-numbers, code-symbols, code-point}
 use Rattle.rows.specs.Tables.{PowersOf, LogsFor, LogsOf}
@@ -84,9 +83,9 @@ module _ (c : Code) (f row : List ℕ) (w : Writable c f row) where
   pub short : length f ≤ longest
   short = omega (arith, w .message .size, numbers .k-top, numbers .row-top)
 
-  pub evaluable : (symbols logs powers parities : List ℕ) → LogsOf (c .m) f symbols → LogsFor (c .m) logs → PowersOf (c .m) powers → Parities parities
-      → (i : ℕ) → i < c .count → Evaluable (c .m) (c .r) (getD (c .points) i 0) f symbols logs powers parities
-  evaluable symbols logs powers parities s g p t i l = record {
+  pub evaluable : (symbols logs powers table : List ℕ) → LogsOf (c .m) f symbols → LogsFor (c .m) logs → PowersOf (c .m) powers → length table ≡ longest
+      → (i : ℕ) → i < c .count → Evaluable (c .m) (c .r) (getD (c .points) i 0) f symbols logs powers table
+  evaluable symbols logs powers table s g p t i l = record {
     width = numbers .width;
     depth = numbers .r-top;
     point = subst (λ (P : ℕ). P < 2 ^ c .m) (sym (code-point (w .code) i l)) (code-symbols (w .code) i);
@@ -95,7 +94,7 @@ module _ (c : Code) (f row : List ℕ) (w : Writable c f row) where
     symbols-are = s;
     logs-are = g;
     powers-are = p;
-    parities-are = t;
+    room = t;
   }
 
   pub written-more : (i at : ℕ) (row′ row″ chunk : List ℕ) → Progress (c .m) (c .r) (pointsOf c) f row i at row′ → i < c .count

@@ -8,12 +8,11 @@ use Rattle.defs.specs.Place.{Symbols}
 use Rattle.defs.specs.Row.{Message}
 use Rattle.defs.specs.Limits.{deepest, longest}
 use Rattle.defs.specs.declared.Code.{Code}
-use Rattle.field.specs.Arithmetic.{Logarithm, Parities}
 use Rattle.code.specs.Checked.{IsCode}
-use Rattle.rows.specs.Tables.{PowersOf, LogsFor, LogsOf}
+use Rattle.rows.specs.Tables.{PowersOf, LogsFor, LogsOf, ExponentsOf}
 
 -- a message f is evaluated at a point, to depth r
-pub record Evaluable (m r P : ℕ) (f symbols logs powers parities : List ℕ) : Type 0 where
+pub record Evaluable (m r P : ℕ) (f symbols logs powers table : List ℕ) : Type 0 where
   pub width : Width m
   pub depth : r ≤ deepest
   pub point : P < 2 ^ m
@@ -22,18 +21,15 @@ pub record Evaluable (m r P : ℕ) (f symbols logs powers parities : List ℕ) :
   pub symbols-are : LogsOf m f symbols
   pub logs-are : LogsFor m logs
   pub powers-are : PowersOf m powers
-  pub parities-are : Parities parities
+  pub room : length table ≡ longest
 
--- the coefficient j alone, at a point that is not 0 and has the logarithm step
-pub record Coefficient (m P j step : ℕ) (f symbols powers parities : List ℕ) : Type 0 where
+-- the coefficient j alone, at a point that is not 0
+pub record Coefficient (m P j : ℕ) (f symbols exponents powers : List ℕ) : Type 0 where
   pub width : Width m
-  pub depth : j < deepest
-  pub logarithm : Logarithm m P step
-  pub message : Symbols m f
   pub short : length f ≤ longest
   pub symbols-are : LogsOf m f symbols
+  pub exponents-are : ExponentsOf m P (length f) exponents
   pub powers-are : PowersOf m powers
-  pub parities-are : Parities parities
 
 -- the row of a message f of the code is to be written over another
 pub record Writable (c : Code) (f row : List ℕ) : Type 0 where

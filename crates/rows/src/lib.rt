@@ -1,6 +1,6 @@
 // Chunks, handed about whole; the rows that are made of them; the calls encode and distance.
 ghost use mathlib.Core.Path.{_≡_};
-ghost use Prim.Native.Nat.{_+_, _*_, _<_, _≤_};
+ghost use Prim.Native.Nat.{_+_, _*_, _^_, _<_, _≤_};
 ghost use lib.ListN.{length, getD};
 ghost use Rattle.defs.specs.Field.{Width};
 ghost use Rattle.defs.specs.Place.{Symbols};
@@ -9,8 +9,9 @@ ghost use Rattle.defs.specs.Distance.{agree, damage, distance};
 ghost use Rattle.defs.specs.Limits.{deepest, longest};
 ghost use Rattle.defs.specs.Encode.{Encoded, distanceVerdict, distanceAnswer};
 ghost use Rattle.theory.specs.Fill.{filled};
+ghost use Rattle.field.specs.Arithmetic.{Logarithm};
 ghost use Rattle.code.specs.Checked.{pointsOf};
-ghost use Rattle.rows.specs.Tables.{PowersOf, LogsFor, LogsOf};
+ghost use Rattle.rows.specs.Tables.{PowersOf, LogsFor, LogsOf, ProductLog, ExponentsOf};
 ghost use Rattle.code.specs.Chunk.{chunkOf};
 ghost use Rattle.rows.specs.Chunk.{Coefficient, Evaluable, Writable, Chunks, Rows};
 use defs::Answer;
@@ -74,31 +75,57 @@ fn message_logs(m: usize, message: &[u8], logs: &[usize; 256]) -> [usize; LONGES
     table
 }
 
-// One Hasse coefficient of a message at a point that is not 0. 2^step is the point and 2^e its power. Since size is one more than the
-// order of 2, the last line but one brings e down again, without a branch.
+// A logarithm of the product of the powers a and b of 2. The order of 2 is one less than size, so size counts for 1, and no branch is needed.
+fn product_log(m: usize, a: usize, b: usize) -> usize
+    requires { ⌜ Width m ⌝ }
+    requires { ⌜ (a < 2 ^ m) × (b < 2 ^ m) ⌝ }
+    ensures { λ l. ⌜ ProductLog m a b l ⌝ }
+{
+    let size = field::field_size(m);
+    let sum = a + b;
+    sum % size + sum / size
+}
+
+// The logarithms of the first k powers of a point; 2^step is the point. Each is found from the fourth before it, so that it need not wait
+// for the last.
+fn exponents(m: usize, point: u8, step: usize, k: usize, table: &mut [usize; LONGEST])
+    requires { ⌜ Width m ⌝ }
+    requires { ⌜ Logarithm m point step ⌝ }
+    requires { ⌜ (k ≤ longest) × (length (now table) ≡ longest) ⌝ }
+    ensures { λ _. ⌜ ExponentsOf m point k (now (table .exit)) ⌝ }
+{
+    let two = product_log(m, step, step);
+    let four = product_log(m, two, two);
+    table[0] = 0;
+    table[1] = step;
+    table[2] = two;
+    table[3] = product_log(m, two, step);
+    let mut i = 4;
+    while i < k {
+        table[i] = product_log(m, table[i - 4], four);
+        i += 1;
+    }
+}
+
+// One Hasse coefficient of a message at a point that is not 0. Terms with an even binomial are passed over.
 fn coefficient(
     m: usize,
     point: u8,
     j: usize,
-    step: usize,
     message: &[u8],
     symbols: &[usize; LONGEST],
+    exponents: &[usize; LONGEST],
     powers: &[u8; PLACES],
-    parities: &[u8; LONGEST * DEEPEST],
 ) -> u8
-    requires { ⌜ Coefficient m point j step (now message) (now symbols) (now powers) (now parities) ⌝ }
+    requires { ⌜ Coefficient m point j (now message) (now symbols) (now exponents) (now powers) ⌝ }
     ensures { λ c. ⌜ c ≡ coefficient m (now (message .entry)) point j ⌝ }
 {
-    let size = field::field_size(m);
     let k = message.len();
     let mut sum: u8 = 0;
-    let mut e = 0;
     let mut i = j;
     while i < k {
-        sum = sum ^ parities[i * DEEPEST + j] * powers[symbols[i] + e];
-        let next = e + step;
-        e = next % size + next / size;
-        i += 1;
+        sum = sum ^ powers[symbols[i] + exponents[i - j]];
+        i = field::next_odd(i, j);
     }
     sum
 }
@@ -114,7 +141,7 @@ fn at_zero(r: usize, message: &[u8]) -> [u8; DEEPEST]
     code::chunk_of(message, 0, r)
 }
 
-// The chunk of a message at a point: its first r Hasse coefficients.
+// The chunk of a message at a point: its first r Hasse coefficients. What stands in table is written over.
 pub fn evaluate(
     m: usize,
     r: usize,
@@ -123,19 +150,19 @@ pub fn evaluate(
     symbols: &[usize; LONGEST],
     logs: &[usize; 256],
     powers: &[u8; PLACES],
-    parities: &[u8; LONGEST * DEEPEST],
+    table: &mut [usize; LONGEST],
 ) -> [u8; DEEPEST]
-    requires { ⌜ Evaluable m r point (now message) (now symbols) (now logs) (now powers) (now parities) ⌝ }
-    ensures { λ a. ⌜ a ≡ chunkOf r (coefficient m (now (message .entry)) point) ⌝ }
+    requires { ⌜ Evaluable m r point (now message) (now symbols) (now logs) (now powers) (now table) ⌝ }
+    ensures { λ a. ⌜ (a ≡ chunkOf r (coefficient m (now (message .entry)) point)) × (length (now (table .exit)) ≡ longest) ⌝ }
 {
     if point == 0 {
         return at_zero(r, message);
     }
-    let step = logs[point as usize];
+    exponents(m, point, logs[point as usize], message.len(), table);
     let mut chunk = [0u8; DEEPEST];
     let mut j = 0;
     while j < r {
-        chunk[j] = coefficient(m, point, j, step, message, symbols, powers, parities);
+        chunk[j] = coefficient(m, point, j, message, symbols, table, powers);
         j += 1;
     }
     chunk
@@ -180,10 +207,10 @@ pub fn write_row(code: Code, message: &[u8], row: &mut [u8])
     let m = code.m;
     let r = code.r;
     let count = code.count;
-    let parities = field::parities();
     let powers = powers(m);
     let logs = logs(m, &powers);
     let symbols = message_logs(m, message, &logs);
+    let mut table = [0usize; LONGEST];
     let mut at = 0;
     let mut i = 0;
     while i < count {
@@ -195,7 +222,7 @@ pub fn write_row(code: Code, message: &[u8], row: &mut [u8])
             &symbols,
             &logs,
             &powers,
-            &parities,
+            &mut table,
         );
         store(row, at, r, chunk);
         at += r;

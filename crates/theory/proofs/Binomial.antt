@@ -136,6 +136,10 @@ within-odd a b =
     bin-ind (λ (n : ℕ). (a : ℕ) → Within n a → binom a n % 2 ≡ 1) (λ a w. refl)
     (λ n ih a w. halves-in a n (lowest n a w) ∙ ih (a / 2) (within-half n a w)) b a
 
+pub self-odd : (j : ℕ) → binom j j % 2 ≡ 1
+unfolding Within
+self-odd j = within-odd j j (λ i e. e)
+
 -- ---- the next upper number
 
 -- a number that has the bits of j already
@@ -149,9 +153,6 @@ unfolding Within
 within-or j i n e =
     ap (λ (x : ℕ). x % 2) (or-shr i j n) ∙ or-mod (i / 2 ^ n) (j / 2 ^ n) 1
     ∙ ap (bitOr (i / 2 ^ n % 2)) e ∙ bit (λ x. bitOr x 1 ≡ 1) refl refl (i / 2 ^ n)
-
-above-or : (i j : ℕ) → i ≤ bitOr i j
-above-or i j = omega (arith, or-add-and i j, and-le-r i j)
 
 -- where i has the bits of j, so has i + 1 with those of j, and no number between
 next-least : (j i c : ℕ) → Within j i → Within j c → i < c → bitOr (i + 1) j ≤ c
@@ -168,15 +169,15 @@ next-least =
         let h : (i + 1) / 2 ≡ i / 2 = omega arith in
         rw h (omega (arith, lowest n i w, or-within (n / 2) (i / 2) (within-half n i w)))
 
-module _ (i j : ℕ) (o : binom i j % 2 ≡ 1) where
+module _ (i j : ℕ) where
   pub next-above : i < bitOr (i + 1) j
-  next-above = omega (arith, above-or (i + 1) j)
+  next-above = omega (arith, or-add-and (i + 1) j, and-le-r (i + 1) j)
 
   pub next-odd : binom (bitOr (i + 1) j) j % 2 ≡ 1
   next-odd = within-odd _ j (within-or j (i + 1))
 
-  pub next-even : (c : ℕ) → i < c → c < bitOr (i + 1) j → binom c j % 2 ≡ 0
-  next-even c l h = go (ℕᴺ-discrete (binom c j % 2) 1)
+  pub next-even : binom i j % 2 ≡ 1 → (c : ℕ) → i < c → c < bitOr (i + 1) j → binom c j % 2 ≡ 0
+  next-even o c l h = go (ℕᴺ-discrete (binom c j % 2) 1)
     where
       go : Dec (binom c j % 2 ≡ 1) → binom c j % 2 ≡ 0
       go (yes e) = absurd (omega (arith, next-least j i c (odd-within i j o) (odd-within c j e) l))
