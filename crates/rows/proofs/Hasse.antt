@@ -15,9 +15,9 @@ use Rattle.theory.proofs.Binomial.{self-odd}
 use Rattle.theory.specs.Poly.{h}
 use Rattle.theory.proofs.Formula.{coefficient-h}
 use Rattle.field.specs.Binomial.{NextOdd}
-use Rattle.rows.specs.Tables.{places, Exponent, ExponentsOf}
+use Rattle.rows.specs.Tables.{places, Exponent}
 use Rattle.code.specs.Chunk.{chunkOf}
-use Rattle.rows.specs.Chunk.{Coefficient, Evaluable}
+use Rattle.rows.specs.Chunk.{Terms}
 use Rattle.code.proofs.Chunks.{chunk-same}
 use Rattle.rows.proofs.Lookup.{reach, look-up}
 
@@ -35,32 +35,29 @@ pub record Added (m P : ℕ) (f : List ℕ) (j i total : ℕ) : Type 0 where
   pub odd : binom i j % 2 ≡ 1
   pub is : total ≡ sum (i - j) (term m f P j)
 
-module _ (m P j : ℕ) (f symbols exponents powers : List ℕ) (t : Coefficient m P j f symbols exponents powers) where
+module _ (m P j : ℕ) (f symbols powers : List ℕ) (t : Terms m f symbols powers) where
   pub added-first : Added m P f j j 0
   unfolding sum
   added-first = let e : j - j ≡ 0 = omega arith in record { low = omega arith; odd = self-odd j; is = rw e }
 
-  module _ (i total : ℕ) (a : Added m P f j i total) (l : i < length f) where
-    exponent : Exponent m P (i - j) (getD exponents (i - j) 0)
-    exponent = t .exponents-are .at (i - j) (omega arith)
+  module _ (i e total : ℕ) (l : i < length f) (a : Added m P f j i total) (x : Exponent m P (i - j) e) where
+    at-most : e ≤ 2 ^ m - 1
+    at-most = omega (arith, x .below)
 
-    at-most : getD exponents (i - j) 0 ≤ 2 ^ m - 1
-    at-most = omega (arith, exponent .below)
+    pub place-fits : getD symbols i 0 + e < places
+    place-fits = reach m (t .width) (getD f i 0) (getD symbols i 0) e (t .symbols-are .at i l) at-most
 
-    pub place-fits : getD symbols i 0 + getD exponents (i - j) 0 < places
-    place-fits = reach m (t .width) (getD f i 0) (getD symbols i 0) _ (t .symbols-are .at i l) at-most
+    product : getD powers (getD symbols i 0 + e) 0 ≡ mul m (getD f i 0) (pow m P (i - j))
+    product = look-up m (t .width) (getD f i 0) (getD symbols i 0) e (t .symbols-are .at i l) at-most powers (t .powers-are) ∙ ap (mul m (getD f i 0)) (x .power)
 
-    product : getD powers (getD symbols i 0 + getD exponents (i - j) 0) 0 ≡ mul m (getD f i 0) (pow m P (i - j))
-    product = look-up m (t .width) (getD f i 0) (getD symbols i 0) _ (t .symbols-are .at i l) at-most powers (t .powers-are) ∙ ap (mul m (getD f i 0)) (exponent .power)
-
-    term-is : getD powers (getD symbols i 0 + getD exponents (i - j) 0) 0 ≡ term m f P j (i - j)
+    term-is : getD powers (getD symbols i 0 + e) 0 ≡ term m f P j (i - j)
     term-is = let s : j + (i - j) ≡ i = add-sub-of-le (a .low) in rw (s, a .odd, product) (sym (one-mul _))
 
     -- the terms between have even binomials
-    passed-over : (n : ℕ) → NextOdd i j n → (x : ℕ) → suc (i - j) ≤ x → x < n - j → term m f P j x ≡ 0
-    passed-over n o x h b = rw (o .even (j + x) (omega (arith, a .low)) (omega arith)) (zero-mul _)
+    passed-over : (n : ℕ) → NextOdd i j n → (y : ℕ) → suc (i - j) ≤ y → y < n - j → term m f P j y ≡ 0
+    passed-over n o y h b = rw (o .even (j + y) (omega (arith, a .low)) (omega arith)) (zero-mul _)
 
-    pub added-more : (n : ℕ) → NextOdd i j n → Added m P f j n (bitXor total (getD powers (getD symbols i 0 + getD exponents (i - j) 0) 0))
+    pub added-more : (n : ℕ) → NextOdd i j n → Added m P f j n (bitXor total (getD powers (getD symbols i 0 + e) 0))
     unfolding add
     added-more n o = record {
       low = omega (arith, a .low, o .above);
@@ -76,10 +73,10 @@ module _ (m P j : ℕ) (f symbols exponents powers : List ℕ) (t : Coefficient 
       behind : (x : ℕ) → length f - j ≤ x → x < i - j → term m f P j x ≡ 0
       behind x h b = rw (List·getD-eq-default f 0 {n = j + x} (omega arith), 0-mul) (mul-zero _)
 
--- what is known of a chunk serves each of its coefficients, where the point is not 0
-pub one-coefficient : {m r P j : ℕ} {f symbols logs powers table exponents : List ℕ} → Evaluable m r P f symbols logs powers table
-    → ExponentsOf m P (length f) exponents → Coefficient m P j f symbols exponents powers
-one-coefficient v e = record { width = v .width; short = v .short; symbols-are = v .symbols-are; exponents-are = e; powers-are = v .powers-are }
+-- over 0 every binomial is odd
+pub next-all : (i : ℕ) → NextOdd i 0 (i + 1)
+unfolding binom
+next-all i = record { above = omega arith; odd = refl; even = λ c l h. absurd (omega arith) }
 
 -- ---- at the point 0
 

@@ -1,19 +1,24 @@
--- Logarithms of products, and of the powers of a point, each found from an earlier one.
+-- Logarithms of products, and of the powers of a point, written down while the coefficient 0 is added up.
 use Prim.Native.Nat.{ℕ, zero, suc, _+_, _*_, _-_, _/_, _%_, _^_, _<_, _≤_}
-use mathlib.Core.Path.{_≡_, refl, ap, ap₂, sym, subst, _∙_}
+use mathlib.Core.Path.{_≡_, refl, ap, ap₂, sym, _∙_}
 use mathlib.Core.List.{List}
 use native.Nat.{ℕᴺ-discrete}
-use native.Mathlib.Nat.{mod-lt, div-add-mod', div-lt-iff-lt-mul}
+use native.Mathlib.Nat.{sub-zero, mod-lt, div-add-mod', div-lt-iff-lt-mul}
+use native.Mathlib.Numerals.{add-one}
 use native.Mathlib.Omega.{arith}
+use lib.Bits.{bitXor}
 use lib.ListN.{length, getD, set, length-set}
 use lib.Seq.{getD-set-same, getD-set-other}
 use lib.Pow.{pow-pos}
 use Rattle.defs.specs.Field.{Width, mul, pow}
+use Rattle.defs.specs.Row.{coefficient}
 use Rattle.defs.specs.Limits.{longest}
 use Rattle.theory.proofs.Field.{mul-comm, pow-lt, pow-add, one-mul-of-lt}
 use Rattle.theory.proofs.Generator.{one-lt, order}
 use Rattle.field.specs.Arithmetic.{Logarithm}
-use Rattle.rows.specs.Tables.{ProductLog, Exponent, ExponentsOf}
+use Rattle.rows.specs.Tables.{places, ProductLog, Exponent, ExponentsOf}
+use Rattle.rows.specs.Chunk.{Terms}
+use Rattle.rows.proofs.Hasse.{Added, added-first, place-fits, added-more, added-last, next-all}
 
 -- ---- of a product
 
@@ -37,43 +42,57 @@ module _ (m : ℕ) (w : Width m) (a b : ℕ) (l : a < 2 ^ m) (k : b < 2 ^ m) whe
 
 -- ---- of the powers of a point
 
-module _ (m : ℕ) (w : Width m) (P step : ℕ) (g : Logarithm m P step) where
-  exponent-zero : Exponent m P 0 0
-  unfolding pow
-  exponent-zero = record { below = pow-pos m; power = refl }
+exponents-more : {m P i e : ℕ} {table : List ℕ} → ExponentsOf m P i table → i < longest → Exponent m P i e → ExponentsOf m P (i + 1) (set table i e)
+exponents-more {m} {P} {i} {e} {table} x l h = record { size = length-set table i e ∙ x .size; at = λ c b. found c b (ℕᴺ-discrete c i) }
+  where
+    found : (c : ℕ) → c < i + 1 → Dec (c ≡ i) → Exponent m P c (getD (set table i e) c 0)
+    found c b (yes q) = rw (q, getD-set-same table i e 0 (omega (arith, x .size))) h
+    found c b (no q) = rw (getD-set-other table i c e 0 q) (x .at c (omega arith))
 
-  pub exponent-one : Exponent m P 1 step
+-- the terms of the coefficient 0 below i are added, the logarithms of the powers below i written down, and e is the next
+pub record Walked (m P : ℕ) (f : List ℕ) (i e total : ℕ) (table : List ℕ) : Type 0 where
+  pub few : i ≤ length f
+  pub added : Added m P f 0 i total
+  pub written : ExponentsOf m P i table
+  pub next : Exponent m P i e
+
+module _ (m P step : ℕ) (f symbols powers : List ℕ) (t : Terms m f symbols powers) (g : Logarithm m P step) where
+  pub walked-first : (table : List ℕ) → length table ≡ longest → Walked m P f 0 0 0 table
   unfolding pow
-  exponent-one = record {
-    below = omega (arith, g .below);
-    power = g .power ∙ sym (mul-comm m P 1 ∙ one-mul-of-lt m P (subst (λ (x : ℕ). x < 2 ^ m) (g .power) (pow-lt m 2 step (one-lt m w))));
+  walked-first table s = record {
+    few = omega arith;
+    added = added-first m P 0 f symbols powers t;
+    written = record { size = s; at = λ i l. absurd (omega arith) };
+    next = record { below = pow-pos m; power = refl };
   }
 
-  pub exponent-sum : {i n e d l : ℕ} → Exponent m P i e → Exponent m P n d → ProductLog m e d l → Exponent m P (i + n) l
-  exponent-sum {i} {n} {e} {d} x y p = record {
-    below = p .below;
-    power = p .power ∙ pow-add m 2 e d (one-lt m w) ∙ ap₂ (mul m) (x .power) (y .power) ∙ sym (pow-add m P i n (one-lt m w));
-  }
+  module _ (i e total : ℕ) (table : List ℕ) (a : Walked m P f i e total table) (l : i < length f) where
+    exponent : Exponent m P (i - 0) e
+    exponent = rw sub-zero (a .next)
 
-  exponents-none : (table : List ℕ) → length table ≡ longest → ExponentsOf m P 0 table
-  exponents-none table s = record { size = s; at = λ i l. absurd (omega arith) }
+    pub walk-fits : getD symbols i 0 + e < places
+    walk-fits = place-fits m P 0 f symbols powers t i e total l (a .added) exponent
 
-  pub exponents-more : (i e : ℕ) (table : List ℕ) → ExponentsOf m P i table → i < longest → Exponent m P i e → ExponentsOf m P (i + 1) (set table i e)
-  exponents-more i e table x l h = record { size = length-set table i e ∙ x .size; at = λ c b. found c b (ℕᴺ-discrete c i) }
-    where
-      found : (c : ℕ) → c < i + 1 → Dec (c ≡ i) → Exponent m P c (getD (set table i e) c 0)
-      found c b (yes q) = rw (q, getD-set-same table i e 0 (omega (arith, x .size))) h
-      found c b (no q) = rw (getD-set-other table i c e 0 q) (x .at c (omega arith))
+    onward : (e′ : ℕ) → ProductLog m e step e′ → Exponent m P (i + 1) e′
+    unfolding pow
+    onward e′ p = record {
+      below = p .below;
+      power =
+          p .power ∙ pow-add m 2 e step (one-lt m (t .width)) ∙ ap₂ (mul m) (a .next .power) (g .power) ∙ mul-comm m (pow m P i) P
+          ∙ ap (pow m P) (sym (add-one i));
+    }
 
-  -- the first four
-  pub exponents-first : (table : List ℕ) {two three : ℕ} → length table ≡ longest → Exponent m P 2 two → Exponent m P 3 three
-      → ExponentsOf m P 4 (set (set (set (set table 0 0) 1 step) 2 two) 3 three)
-  exponents-first table s x y =
-      exponents-more 3 _ _
-      (exponents-more 2 _ _
-      (exponents-more 1 _ _ (exponents-more 0 _ _ (exponents-none table s) (omega arith) exponent-zero) (omega arith) exponent-one)
-      (omega arith) x)
-      (omega arith) y
+    pub walked-more : (e′ : ℕ) → ProductLog m e step e′ → Walked m P f (i + 1) e′ (bitXor total (getD powers (getD symbols i 0 + e) 0)) (set table i e)
+    walked-more e′ p = record {
+      few = omega arith;
+      added = added-more m P 0 f symbols powers t i e total l (a .added) exponent (i + 1) (next-all i);
+      written = exponents-more (a .written) (omega (arith, t .short)) (a .next);
+      next = onward e′ p;
+    }
 
-  pub exponents-last : (i k : ℕ) (table : List ℕ) → ExponentsOf m P i table → k ≤ i → ExponentsOf m P k table
-  exponents-last i k table x l = record { size = x .size; at = λ c b. x .at c (omega arith) }
+  module _ (i e total : ℕ) (table : List ℕ) (a : Walked m P f i e total table) (l : length f ≤ i) where
+    pub walked-sum : total ≡ coefficient m f P 0
+    walked-sum = added-last m P 0 f symbols powers t i total (a .added) l
+
+    pub walked-table : ExponentsOf m P (length f) table
+    walked-table = record { size = a .written .size; at = λ c b. a .written .at c (omega arith) }

@@ -9,27 +9,22 @@ use Rattle.defs.specs.Row.{Message}
 use Rattle.defs.specs.Limits.{deepest, longest}
 use Rattle.defs.specs.declared.Code.{Code}
 use Rattle.code.specs.Checked.{IsCode}
-use Rattle.rows.specs.Tables.{PowersOf, LogsFor, LogsOf, ExponentsOf}
+use Rattle.rows.specs.Tables.{PowersOf, LogsFor, LogsOf}
+
+-- a message f whose terms are to be looked up
+pub record Terms (m : ℕ) (f symbols powers : List ℕ) : Type 0 where
+  pub width : Width m
+  pub short : length f ≤ longest
+  pub symbols-are : LogsOf m f symbols
+  pub powers-are : PowersOf m powers
 
 -- a message f is evaluated at a point, to depth r
-pub record Evaluable (m r P : ℕ) (f symbols logs powers table : List ℕ) : Type 0 where
-  pub width : Width m
-  pub depth : r ≤ deepest
+pub record Evaluable (m r P : ℕ) (f symbols logs powers : List ℕ) : Type 0 where
+  pub terms : Terms m f symbols powers
+  pub depth : (1 ≤ r) × (r ≤ deepest)
   pub point : P < 2 ^ m
   pub message : Symbols m f
-  pub short : length f ≤ longest
-  pub symbols-are : LogsOf m f symbols
   pub logs-are : LogsFor m logs
-  pub powers-are : PowersOf m powers
-  pub room : length table ≡ longest
-
--- the coefficient j alone, at a point that is not 0
-pub record Coefficient (m P j : ℕ) (f symbols exponents powers : List ℕ) : Type 0 where
-  pub width : Width m
-  pub short : length f ≤ longest
-  pub symbols-are : LogsOf m f symbols
-  pub exponents-are : ExponentsOf m P (length f) exponents
-  pub powers-are : PowersOf m powers
 
 -- the row of a message f of the code is to be written over another
 pub record Writable (c : Code) (f row : List ℕ) : Type 0 where

@@ -13,7 +13,7 @@ ghost use Rattle.field.specs.Arithmetic.{Logarithm};
 ghost use Rattle.code.specs.Checked.{pointsOf};
 ghost use Rattle.rows.specs.Tables.{PowersOf, LogsFor, LogsOf, ProductLog, ExponentsOf};
 ghost use Rattle.code.specs.Chunk.{chunkOf};
-ghost use Rattle.rows.specs.Chunk.{Coefficient, Evaluable, Writable, Chunks, Rows};
+ghost use Rattle.rows.specs.Chunk.{Terms, Evaluable, Writable, Chunks, Rows};
 use defs::Answer;
 use defs::Code;
 use defs::DEEPEST;
@@ -86,38 +86,47 @@ fn product_log(m: usize, a: usize, b: usize) -> usize
     sum % size + sum / size
 }
 
-// The logarithms of the first k powers of a point; 2^step is the point. Each is found from the fourth before it, so that it need not wait
-// for the last.
-fn exponents(m: usize, point: u8, step: usize, k: usize, table: &mut [usize; LONGEST])
-    requires { ⌜ Width m ⌝ }
+// The coefficient 0 of a message at a point that is not 0: every term counts. 2^step is the point. The logarithms of its powers are written
+// down on the way, for the other coefficients.
+fn first_coefficient(
+    m: usize,
+    point: u8,
+    step: usize,
+    message: &[u8],
+    symbols: &[usize; LONGEST],
+    powers: &[u8; PLACES],
+    exponents: &mut [usize; LONGEST],
+) -> u8
+    requires { ⌜ Terms m (now message) (now symbols) (now powers) ⌝ }
     requires { ⌜ Logarithm m point step ⌝ }
-    requires { ⌜ (k ≤ longest) × (length (now table) ≡ longest) ⌝ }
-    ensures { λ _. ⌜ ExponentsOf m point k (now (table .exit)) ⌝ }
+    requires { ⌜ length (now exponents) ≡ longest ⌝ }
+    ensures { λ c. ⌜ c ≡ coefficient m (now (message .entry)) point 0 ⌝ }
+    ensures { λ _. ⌜ ExponentsOf m point (length (now (message .entry))) (now (exponents .exit)) ⌝ }
 {
-    let two = product_log(m, step, step);
-    let four = product_log(m, two, two);
-    table[0] = 0;
-    table[1] = step;
-    table[2] = two;
-    table[3] = product_log(m, two, step);
-    let mut i = 4;
-    while i < k {
-        table[i] = product_log(m, table[i - 4], four);
+    let mut sum: u8 = 0;
+    let mut e = 0;
+    let mut i = 0;
+    while i < message.len() {
+        exponents[i] = e;
+        sum = sum ^ powers[symbols[i] + e];
+        e = product_log(m, e, step);
         i += 1;
     }
+    sum
 }
 
-// One Hasse coefficient of a message at a point that is not 0. Terms with an even binomial are passed over.
+// The coefficient j. Terms with an even binomial are passed over.
 fn coefficient(
     m: usize,
     point: u8,
     j: usize,
     message: &[u8],
     symbols: &[usize; LONGEST],
-    exponents: &[usize; LONGEST],
     powers: &[u8; PLACES],
+    exponents: &[usize; LONGEST],
 ) -> u8
-    requires { ⌜ Coefficient m point j (now message) (now symbols) (now exponents) (now powers) ⌝ }
+    requires { ⌜ Terms m (now message) (now symbols) (now powers) ⌝ }
+    requires { ⌜ ExponentsOf m point (length (now message)) (now exponents) ⌝ }
     ensures { λ c. ⌜ c ≡ coefficient m (now (message .entry)) point j ⌝ }
 {
     let k = message.len();
@@ -141,7 +150,7 @@ fn at_zero(r: usize, message: &[u8]) -> [u8; DEEPEST]
     code::chunk_of(message, 0, r)
 }
 
-// The chunk of a message at a point: its first r Hasse coefficients. What stands in table is written over.
+// The chunk of a message at a point: its first r Hasse coefficients. What stands in exponents is written over.
 pub fn evaluate(
     m: usize,
     r: usize,
@@ -150,19 +159,22 @@ pub fn evaluate(
     symbols: &[usize; LONGEST],
     logs: &[usize; 256],
     powers: &[u8; PLACES],
-    table: &mut [usize; LONGEST],
+    exponents: &mut [usize; LONGEST],
 ) -> [u8; DEEPEST]
-    requires { ⌜ Evaluable m r point (now message) (now symbols) (now logs) (now powers) (now table) ⌝ }
-    ensures { λ a. ⌜ (a ≡ chunkOf r (coefficient m (now (message .entry)) point)) × (length (now (table .exit)) ≡ longest) ⌝ }
+    requires { ⌜ Evaluable m r point (now message) (now symbols) (now logs) (now powers) ⌝ }
+    requires { ⌜ length (now exponents) ≡ longest ⌝ }
+    ensures { λ a. ⌜ a ≡ chunkOf r (coefficient m (now (message .entry)) point) ⌝ }
+    ensures { λ _. ⌜ length (now (exponents .exit)) ≡ longest ⌝ }
 {
     if point == 0 {
         return at_zero(r, message);
     }
-    exponents(m, point, logs[point as usize], message.len(), table);
+    let step = logs[point as usize];
     let mut chunk = [0u8; DEEPEST];
-    let mut j = 0;
+    chunk[0] = first_coefficient(m, point, step, message, symbols, powers, exponents);
+    let mut j = 1;
     while j < r {
-        chunk[j] = coefficient(m, point, j, message, symbols, table, powers);
+        chunk[j] = coefficient(m, point, j, message, symbols, powers, exponents);
         j += 1;
     }
     chunk
@@ -210,7 +222,7 @@ pub fn write_row(code: Code, message: &[u8], row: &mut [u8])
     let powers = powers(m);
     let logs = logs(m, &powers);
     let symbols = message_logs(m, message, &logs);
-    let mut table = [0usize; LONGEST];
+    let mut exponents = [0usize; LONGEST];
     let mut at = 0;
     let mut i = 0;
     while i < count {
@@ -222,7 +234,7 @@ pub fn write_row(code: Code, message: &[u8], row: &mut [u8])
             &symbols,
             &logs,
             &powers,
-            &mut table,
+            &mut exponents,
         );
         store(row, at, r, chunk);
         at += r;

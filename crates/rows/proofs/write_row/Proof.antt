@@ -14,11 +14,11 @@ use Rattle.rows.proofs.write_row.Statement.{statement}
 use Rattle.rows.proofs.write_row.Tie as tie
 
 abbrev Inv-loop : tie.InvT-loop
-Inv-loop message row₀ points m r count powers logs symbols table₀ at₀ i₀ row table at i =
-    Progress m r (take count points) message row₀ i at row × (length table ≡ longest)
+Inv-loop message row₀ points m r count powers logs symbols exponents₀ at₀ i₀ row exponents at i =
+    Progress m r (take count points) message row₀ i at row × (length exponents ≡ longest)
 
 abbrev μ-loop : tie.MeasureT-loop
-μ-loop message row₀ points m r count powers logs symbols table₀ at₀ i₀ row table at i = count - i
+μ-loop message row₀ points m r count powers logs symbols exponents₀ at₀ i₀ row exponents at i = count - i
 
 -- where the code's parts are at hand
 module _ (c : tie.After-points Inv-loop μ-loop) where
@@ -40,7 +40,7 @@ module _ (c : tie.After-message-logs Inv-loop μ-loop) where
   begun = powered .before .before
 
 -- where a chunk is to be made
-module _ (c : tie.After-table Inv-loop μ-loop) where
+module _ (c : tie.After-exponents Inv-loop μ-loop) where
   abbrev turn : tie.In-loop Inv-loop μ-loop
   turn = c .before .before .before .before
 
@@ -82,7 +82,7 @@ evaluate-requires : tie.Need-evaluate-requires Inv-loop μ-loop
 evaluate-requires c κs =
     let t = tables (turn c) in
     let b = begun t in
-    evaluable _ _ _ (given b) _ _ _ _ (t .message-logs .ensures) (t .before .before .logs .ensures) (powered t .before .powers .ensures) (turn c .before .loop .inv .1) _ (few (turn c))
+    (evaluable _ _ _ (given b) _ _ _ (t .message-logs .ensures) (t .before .before .logs .ensures) (powered t .before .powers .ensures) _ (few (turn c)), turn c .before .loop .inv .1)
 
 store-requires : tie.Need-store-requires Inv-loop μ-loop
 store-requires c κs =
