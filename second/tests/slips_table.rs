@@ -1,18 +1,11 @@
-//! The table of slips that the gate runs through the proved line has, for each slip, the line that this package computes.
-//!
-//! The slips in `crates/slips_table/stdin` stand in this order: the rows worked by hand; each cut of the six-byte slip, two
-//! extensions, the spare bit and the fill set; every other edition, field code 3, each limit and one beyond it, repeated points,
-//! two faults at once; the longest line; then some 250 drawn at random once: damaged at the radius, damaged beyond it, changed,
-//! cut or extended, noise, and two long ones. The program that drew them also gave the lines, by elimination and, for small
-//! codes, by trying all messages; it shares nothing with this package, so the two check each other.
+//! The table of slips that the gate runs through the proved line is the one that is drawn here, and elimination, which
+//! shares no code with the reference, gives the same lines.
 
-use second::reference::line;
+use second::reference::slip::{unpack, Slip};
+use second::{plain, table};
 use std::fs;
 
-/// The numbers that a line can begin with: every refusal of the reader and the decoder.
-const NUMBERS: [&str; 9] = ["0", "1", "3", "4", "6", "9", "10", "11", "12"];
-
-fn read(name: &str) -> Vec<u8> {
+fn stored(name: &str) -> Vec<u8> {
     let path = format!(
         "{}/../crates/slips_table/{name}",
         env!("CARGO_MANIFEST_DIR")
@@ -33,22 +26,46 @@ fn slips(table: &[u8]) -> Vec<&[u8]> {
     slips
 }
 
-#[test]
-fn the_table_has_the_line_of_each_slip() {
-    let (table, lines) = (read("stdin"), read("stdout"));
-    let lines = String::from_utf8(lines).expect("lines are plain text");
-    let slips = slips(&table);
-    assert_eq!(slips.len(), lines.lines().count());
-    for (slip, expected) in slips.iter().zip(lines.split_inclusive('\n')) {
-        assert_eq!(line::text(slip), expected, "{slip:02x?}");
+/// The line of a slip that the reader takes, by elimination.
+fn line_by_elimination(slip: &Slip) -> String {
+    let (header, points) = (slip.header, &slip.points);
+    let (mut message, mut depths) = (vec![0; header.k], vec![0; header.count]);
+    let (m, r, k) = (header.m, header.r, header.k);
+    match plain::decode(m, r, k, points, &slip.row, &mut message, &mut depths) {
+        Ok(total) => {
+            let spaced = |numbers: &[u8]| numbers.iter().map(u8::to_string).collect::<Vec<_>>();
+            let (message, depths) = (spaced(&message).join(" "), spaced(&depths).join(" "));
+            format!("0 {total} | {message} | {depths}")
+        }
+        Err(refused) => format!("{} {}", refused.number, refused.place),
     }
 }
 
 #[test]
-fn the_table_meets_every_number_of_a_line() {
-    let lines = String::from_utf8(read("stdout")).expect("lines are plain text");
-    for number in NUMBERS {
-        let met = |line: &str| line.split(' ').next() == Some(number);
-        assert!(lines.lines().any(met), "no line begins with {number}");
+fn the_stored_table_is_the_one_that_is_drawn() {
+    let drawn = table::draw();
+    assert!(stored("stdin") == drawn.slips, "draw it with `slips`");
+    assert!(stored("stdout") == drawn.lines.into_bytes());
+}
+
+#[test]
+fn elimination_gives_the_same_lines() {
+    let (table, lines) = (stored("stdin"), stored("stdout"));
+    let lines = String::from_utf8(lines).expect("lines are plain text");
+    let slips = slips(&table);
+    assert_eq!(slips.len(), lines.lines().count());
+    let (mut decoded, mut refused) = (0, 0);
+    for (slip, expected) in slips.iter().zip(lines.lines()) {
+        match unpack(slip) {
+            Ok(read) => {
+                assert_eq!(line_by_elimination(&read), expected, "{slip:02x?}");
+                decoded += 1;
+            }
+            Err(reason) => {
+                assert_eq!(format!("{} {}", reason.number(), reason.place()), expected);
+                refused += 1;
+            }
+        }
     }
+    assert!(decoded > 100 && refused > 100, "{decoded} and {refused}");
 }

@@ -120,11 +120,7 @@ fn pad(points: &[u8]) -> [u8; LONGEST]
     ensures { λ a. ⌜ a ≡ padded (now (points .entry)) ⌝ }
 {
     let mut a = [0u8; LONGEST];
-    let mut i = 0;
-    while i < points.len() {
-        a[i] = points[i];
-        i += 1;
-    }
+    copy(points, &mut a);
     a
 }
 

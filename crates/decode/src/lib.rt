@@ -1,5 +1,6 @@
 // Decode: what the quotient of a pair is gets measured against the row; and the call.
 ghost use mathlib.Core.Path.{_≡_};
+ghost use Prim.Native.Nat.{_≤_};
 ghost use lib.ListN.{length};
 ghost use Rattle.defs.specs.Field.{Width};
 ghost use Rattle.defs.specs.Decode.{Decoded};
@@ -74,14 +75,14 @@ fn seek(code: Code, row: &[u8]) -> Sought
     }
 }
 
-// Writes the depth of damage in each chunk, and answers their sum.
-fn write_depths(r: usize, sent: &[u8], row: &[u8], depths: &mut [u8]) -> usize
-    requires { ⌜ Rows r (length (now depths)) (now sent) (now row) ⌝ }
-    ensures { λ t. ⌜ Measured r (now (sent .entry)) (now (row .entry)) (now (depths .entry)) t (now (depths .exit)) ⌝ }
+// Writes the depths of damage in count chunks, and answers their sum.
+fn write_depths(r: usize, count: usize, sent: &[u8], row: &[u8], depths: &mut [u8]) -> usize
+    requires { ⌜ Rows r count (now sent) (now row) × (count ≤ length (now depths)) ⌝ }
+    ensures { λ t. ⌜ Measured r count (now (sent .entry)) (now (row .entry)) (now (depths .entry)) t (now (depths .exit)) ⌝ }
 {
     let mut total = 0;
     let mut i = 0;
-    while i < depths.len() {
+    while i < count {
         let d = rows::chunk_damage(r, sent, row, i);
         depths[i] = d as u8;
         total += d;
@@ -132,8 +133,9 @@ pub fn decode(
     if let Verdict::Refused(x) = v {
         return Answer::Refused(x);
     }
-    let n = r * points.len();
-    let rest = check_rest(m, n, k, points.len(), row, message.len(), depths.len());
+    let count = points.len();
+    let n = r * count;
+    let rest = check_rest(m, n, k, count, row, message.len(), depths.len());
     if let Verdict::Refused(x) = rest {
         return Answer::Refused(x);
     }
@@ -146,5 +148,5 @@ pub fn decode(
     let found = sought.message;
     let sent = sought.row;
     code::copy(&found[..k], message);
-    Answer::Done(write_depths(r, &sent[..n], row, depths))
+    Answer::Done(write_depths(r, count, &sent[..n], row, depths))
 }

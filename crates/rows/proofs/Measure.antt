@@ -33,9 +33,9 @@ module _ (r : ℕ) (u w : List ℕ) where
       ap (λ (n : ℕ). r - n)
       (g ∙ agree-ext r _ _ _ _ (λ j l. ap (λ (c : List ℕ). getD c j 0) e ∙ chunk-at r _ j l) (λ j l. ap (λ (c : List ℕ). getD c j 0) f ∙ chunk-at r _ j l))
 
-  pub damage-le : (i : ℕ) → damage r u w i ≤ r
+  pub damage-top : (i d : ℕ) → d ≡ damage r u w i → d ≤ r
   unfolding damage
-  damage-le i = omega arith
+  damage-top i d e = omega (arith, e)
 
   pub distance-none : 0 ≡ distance r 0 u w
   unfolding distance total

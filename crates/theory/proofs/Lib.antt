@@ -26,3 +26,4 @@ pub mod Demand3
 pub mod Pair
 pub mod Quotient
 pub mod Checks
+pub mod Refusals

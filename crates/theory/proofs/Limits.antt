@@ -56,7 +56,7 @@ numbers-known m r k count e =
 pub count-small : {m r k count : ℕ} → Numbers m r k count → count ≤ longest
 count-small {m} {r} {k} {count} s = omega (arith, mul-le-mul-right count (s .r-pos))
 
-none-twice : (points : List ℕ) → length points ≤ firstTwice points → Distinct (length points) (λ i. getD points i 0)
+pub none-twice : (points : List ℕ) → length points ≤ firstTwice points → Distinct (length points) (λ i. getD points i 0)
 unfolding firstTwice
 none-twice points h i k l l′ =
     eqb-false _ _ (least-all _ k (ltb-false _ _ (least-all _ (length points) h k l′)) i l)
@@ -94,7 +94,7 @@ numbers-inside m r k count s =
       le-ltb (r * count) k (s .k-top),
     )
 
-all-low : (m : ℕ) (s : List ℕ) → Symbols m s → firstHigh m s ≡ length s
+pub all-low : (m : ℕ) (s : List ℕ) → Symbols m s → firstHigh m s ≡ length s
 unfolding firstHigh
 all-low m s h = least-none _ (length s) (λ j l. lt-leb (2 ^ m) (getD s j 0) (h j))
 

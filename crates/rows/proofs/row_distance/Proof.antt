@@ -5,7 +5,7 @@ use mathlib.Core.Path.{_≡_, ap, _∙_}
 use native.Mathlib.Omega.{arith}
 use Rattle.defs.specs.Limits.{deepest}
 use Rattle.defs.specs.Distance.{distance}
-use Rattle.rows.proofs.Measure.{rows-chunk, damage-le, distance-none, distance-more}
+use Rattle.rows.proofs.Measure.{rows-chunk, damage-top, distance-none, distance-more}
 use borrow.Author.Needs.{needs}
 use Rattle.rows.proofs.row_distance.Statement.{statement}
 use Rattle.rows.proofs.row_distance.Tie as tie
@@ -33,7 +33,7 @@ module _ (c : tie.After-chunk-damage Inv-loop μ-loop) where
   head = c .before .before
 
   shallow : c .chunk-damage .result ≤ deepest
-  shallow = omega (arith, start head .pre .depth, c .chunk-damage .ensures, damage-le (start head .args .r) (a head) (b head) (head .loop .i))
+  shallow = omega (arith, start head .pre .depth, damage-top _ _ _ _ _ (c .chunk-damage .ensures))
 
 loop-holds : tie.Need-loop-holds Inv-loop μ-loop
 loop-holds c = (omega arith, distance-none _ _ _, omega arith)
