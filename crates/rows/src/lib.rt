@@ -86,7 +86,7 @@ fn product_log(m: usize, a: usize, b: usize) -> usize
     sum % size + sum / size
 }
 
-// The coefficient 0 of a message at a point that is not 0: every term counts. 2^step is the point. The logarithms of its powers are written
+// The Hasse coefficient 0 of a message at a point that is not 0: every term counts. 2^step is the point. The logarithms of its powers are written
 // down on the way, for the other coefficients.
 fn first_coefficient(
     m: usize,
@@ -115,7 +115,7 @@ fn first_coefficient(
     sum
 }
 
-// The coefficient j. Terms with an even binomial are passed over.
+// The Hasse coefficient j at such a point. Terms with an even binomial are passed over.
 fn coefficient(
     m: usize,
     point: u8,
