@@ -50,8 +50,16 @@ module _ (bytes : List ℕ) (are : Symbols 8 bytes) (points row points′ row′
 
   pub read-made : Made bytes
   read-made = record {
-    m = widthIn bytes; r = depthIn bytes; k = dimensionIn bytes; d = length bytes; points = pointsIn bytes; w = rowIn bytes;
-    bytes = bytes; bytes′ = bytes; written = written; is = sym (take-all (length bytes) bytes (omega arith));
+    m = widthIn bytes;
+    r = depthIn bytes;
+    k = dimensionIn bytes;
+    d = length bytes;
+    points = pointsIn bytes;
+    w = rowIn bytes;
+    bytes = bytes;
+    bytes′ = bytes;
+    written = written;
+    is = sym (take-all (length bytes) bytes (omega arith));
   }
 
 -- TWO SLIPS THAT ARE READ WITH EQUAL CODE AND ROW ARE EQUAL
