@@ -1,16 +1,15 @@
 -- Bytes that are read as a slip, with nothing in the bits that hold nothing, are the bytes that the writer makes of what was read.
 use Prim.Native.Nat.{ℕ, zero, suc, _+_, _*_, _-_, _/_, _%_, _^_, _<_, _≤_}
 use mathlib.Core.Path.{_≡_, refl, ap, sym, _∙_}
-use mathlib.Core.List.{List, [], _∷_, _++_}
-use native.Mathlib.Nat.{zero-add, mul-comm, mod-lt, mod-eq-of-lt, add-assoc, div-add-mod', div-lt-iff-lt-mul, div-one, pow-zero}
+use mathlib.Core.List.{List, [], _++_}
+use native.Mathlib.Nat.{zero-add, mul-comm, mod-lt, mod-eq-of-lt, div-add-mod', div-lt-iff-lt-mul, div-one, pow-zero}
 use native.Mathlib.Omega.{arith}
 use native.Mathlib.Decide.{decLt}
 use lib.Dec.{lit<}
 use lib.ListN.{length, getD, List·getD-eq-default}
-use lib.Seq.{getD-append-add}
 use Rattle.defs.specs.Field.{Width}
 use Rattle.defs.specs.Place.{least, tab, Symbols}
-use Rattle.defs.specs.Slip.{bits, allBits, numberAt, widthOf, fieldCode, slipSize, longestSlip, slipBits, slipOf, editionIn, widthIn, depthIn, countIn, dimensionIn, sizeIn, symbolsIn, pointsIn, rowIn, spareIn, usedIn, fillIn}
+use Rattle.defs.specs.Slip.{allBits, numberAt, widthOf, fieldCode, slipSize, slipBits, slipOf, editionIn, widthIn, depthIn, countIn, dimensionIn, sizeIn, symbolsIn, pointsIn, rowIn, spareIn, usedIn, fillIn}
 use Rattle.defs.specs.Read.{readVerdict}
 use Rattle.defs.specs.declared.Verdict.the-variants.{Fine}
 use Rattle.theory.proofs.Place.{length-tab, getD-tab, tab-append, tab-same, tab-getD}
@@ -22,18 +21,15 @@ use Rattle.slip.proofs.Reader.{Sound, sound, points-few, read-checked, 
 use Rattle.slip.proofs.Taken.{length-points}
 use Rattle.slip.proofs.Writer.{size-top}
 
-lt-eq : {a b c : ℕ} → a < b → b ≡ c → a < c
-lt-eq l e = omega arith
-
 -- the bits of the symbols that were read out of bits are these bits
-pub symbols-told : (m p n : ℕ) (s : List ℕ) → 0 < m → Symbols 1 s → (i : ℕ) → i < m * n
+symbols-told : (m p n : ℕ) (s : List ℕ) → 0 < m → Symbols 1 s → (i : ℕ) → i < m * n
     → getD (allBits m (tab (λ j. numberAt m (p + m * j) s) n)) i 0 ≡ getD s (p + i) 0
 symbols-told m p n s pos h i l =
     let T : List ℕ = tab (λ j. numberAt m (p + m * j) s) n in
     let j = i / m in
     let b = i % m in
     let whole : m * j + b ≡ i = ap (λ (x : ℕ). x + i % m) (mul-comm m (i / m)) ∙ div-add-mod' i m in
-    let there : j < n = div-lt-iff-lt-mul pos .1 (lt-eq l (mul-comm m n)) in
+    let there : j < n = div-lt-iff-lt-mul pos .1 (omega (arith, mul-comm m n)) in
     let symbol : numberAt m (m * j) (allBits m T) ≡ numberAt m (p + m * j) s =
     number-symbol m T j ∙ rw (getD-tab (λ j. numberAt m (p + m * j) s) n j there) (mod-eq-of-lt (number-below m (p + m * j) s h)) in
     let told : getD (allBits m T) (m * j + b) 0 ≡ getD s (p + m * j + b) 0 =
