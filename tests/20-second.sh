@@ -1,7 +1,8 @@
 #!/usr/bin/env bash
-# The second program's own tests pass, among them that the table of slips is the one drawn and that sums may not wrap.
+# The second program's own tests pass, among them that the table of slips is the one drawn, that the reference gives the lines
+# of the independent table, and that sums may not wrap.
 source "$(dirname "$0")/common.bash"
-tests=32 # in the sources 26, agree 4, slips_table 2
+tests=33 # in the sources 26, agree 4, slips_table 3
 
 quiet in_second test
 passed "$tests"

@@ -25,6 +25,7 @@ use Rattle.defs.specs.declared.Answer.the-variants.{Done, Refused as No}
 use Rattle.theory.specs.Fill.{filled}
 use Rattle.theory.proofs.Fill.{filled-front}
 use Rattle.theory.proofs.Place.{length-tab}
+use Rattle.theory.proofs.Distance.{length-depths}
 use Rattle.defs.specs.declared.Code.{Code}
 use Rattle.theory.specs.Limits.{Numbers}
 use Rattle.theory.proofs.Limits.{inside-known, count-small}
@@ -119,10 +120,6 @@ front-whole : (new old : List ℕ) → length new ≡ length old → front new o
 unfolding front
 front-whole new old e = rw (drop-of-length-le old {i = length new} (omega arith)) (append-nil new)
 
-depths-long : (r count : ℕ) (u w : List ℕ) → length (depths r count u w) ≡ count
-unfolding depths
-depths-long r count u w = length-tab (damage r u w) count
-
 -- the ways out of the call
 module _ (m r k : ℕ) (points w message depth : List ℕ) where
   pub code-refused : (x : Refusal) → codeVerdict m r k points ≡ Refused x → Decoded m r k points w message depth (No x) message depth
@@ -190,7 +187,7 @@ module _ {m r k : ℕ} {points w message depth : List ℕ} {c : Code} (x : Admit
       found f verdict near′
       (ap Done (d .all ∙ rw row))
       (h ∙ front-whole f message (near′ .message .size ∙ sym (facts .2)))
-      (d .each ∙ front-whole _ depth (depths-long r (length points) _ w ∙ sym (facts .3)) ∙ rw row)
+      (d .each ∙ front-whole _ depth (length-depths r (length points) _ w ∙ sym (facts .3)) ∙ rw row)
 
 -- what is found comes in two whole arrays
 pub whole : {c : Code} {w : List ℕ} {s : Sought} → IsSought c w s → s .verdict ≡ Fine → (length (s .message) ≡ longest) × (length (s .row) ≡ longest)

@@ -32,15 +32,13 @@ pub struct Sought {
     pub row: [u8; LONGEST],
 }
 
-fn nothing(v: Verdict) -> Sought
+fn nothing(v: Verdict, blank: [u8; LONGEST]) -> Sought
     ensures { λ s. ⌜ s .verdict ≡ v ⌝ }
 {
-    let message = [0u8; LONGEST];
-    let row = [0u8; LONGEST];
     Sought {
         verdict: v,
-        message,
-        row,
+        message: blank,
+        row: blank,
     }
 }
 
@@ -50,13 +48,14 @@ fn seek(code: Code, row: &[u8]) -> Sought
     requires { ⌜ IsRow code (now row) ⌝ }
     ensures { λ s. ⌜ IsSought code (now (row .entry)) s ⌝ }
 {
+    let blank = [0u8; LONGEST];
     let n = row.len();
     let k = code.k;
     let reach = pair::radius(n, k);
     let paired = pair::find_pair(code, row);
     let v = paired.verdict;
     if let Verdict::Refused(_) = v {
-        return nothing(Verdict::Refused(Refusal::TooFar)); // no pair exists
+        return nothing(Verdict::Refused(Refusal::TooFar), blank); // no pair exists
     }
     let q0 = paired.q0;
     let q1 = paired.q1;
@@ -66,7 +65,7 @@ fn seek(code: Code, row: &[u8]) -> Sought
     let sent = row_of(code, message, n);
     let d = rows::row_distance(code.r, code.count, &sent[..n], row);
     if reach < d {
-        return nothing(Verdict::Refused(Refusal::TooFar));
+        return nothing(Verdict::Refused(Refusal::TooFar), blank);
     }
     Sought {
         verdict: Verdict::Fine,

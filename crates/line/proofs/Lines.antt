@@ -20,6 +20,7 @@ use Rattle.defs.specs.declared.Refusal.the-variants.{TooFar}
 use Rattle.defs.specs.declared.Answer.{Answer}
 use Rattle.defs.specs.declared.Answer.the-variants.{Done, Refused as No}
 use Rattle.theory.proofs.Place.{length-tab, getD-tab}
+use Rattle.theory.proofs.Distance.{length-depths}
 use Rattle.theory.proofs.Limits.{inside-known, count-small}
 use Rattle.theory.proofs.Checks.{decode-known}
 use Rattle.theory.proofs.Refusals.{decode-every}
@@ -35,10 +36,6 @@ depth-low r count u w h i = go (decLt i count)
     go : Dec (i < count) → getD (tab (damage r u w) count) i 0 < 10
     go (yes l) = rw (getD-tab (damage r u w) count i l) (omega arith)
     go (no l) = rw (List·getD-eq-default (tab (damage r u w) count) 0 {n = i} (omega (arith, length-tab (damage r u w) count))) (lit< tt)
-
-length-depths : (r count : ℕ) (u w : List ℕ) → length (depths r count u w) ≡ count
-unfolding depths
-length-depths r count u w = length-tab _ count
 
 -- twice the radius and the message are no more than the row
 reach-top : (r k : ℕ) (points : List ℕ) → k ≤ r * length points → k + 2 * reach r k points ≤ r * length points

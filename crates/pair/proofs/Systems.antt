@@ -6,30 +6,16 @@ use mathlib.Core.List.{List}
 use native.Mathlib.Nat.{le-antisymm, suc-mul, add-mul, mul-comm, mul-le-mul-right}
 use native.Mathlib.Omega.{arith}
 use lib.ListN.{length, getD}
-use lib.Seq.{getD-take}
 use lib.Pow.{pow-pos}
 use Rattle.defs.specs.Field.{Width}
 use Rattle.defs.specs.Place.{Symbols}
-use Rattle.defs.specs.declared.Code.{Code}
-use Rattle.theory.specs.Limits.{Numbers}
 use Rattle.theory.proofs.Order.{eq-or-not, lt-or-le, eq-lt}
-use Rattle.theory.proofs.Limits.{inside-known}
-use Rattle.code.specs.Checked.{pointsOf, IsCode}
 use Rattle.code.specs.Chunk.{chunkOf}
 use Rattle.code.proofs.Chunks.{chunk-at, chunk-behind}
 use Rattle.solve.specs.Table.{stride, tableSize, at, Shape}
 use Rattle.pair.specs.Equation.{Equation}
 use Rattle.pair.specs.Fill.{look, Chunk, System}
 use Rattle.pair.proofs.Chunks.{mixed-same}
-
-pub code-numbers : {c : Code} → IsCode c → Numbers (c .m) (c .r) (c .k) (c .count)
-code-numbers {c} C = subst (λ (n : ℕ). Numbers (c .m) (c .r) (c .k) n) (C .counted) (inside-known _ _ _ (pointsOf c) (C .inside) .numbers)
-
-pub code-symbols : {c : Code} → IsCode c → Symbols (c .m) (pointsOf c)
-code-symbols {c} C = inside-known _ _ _ (pointsOf c) (C .inside) .symbols
-
-pub code-point : {c : Code} → IsCode c → (i : ℕ) → i < c .count → getD (c .points) i 0 ≡ getD (pointsOf c) i 0
-code-point {c} C i l = sym (getD-take (c .count) (c .points) i 0 l)
 
 -- a table of zeros
 pub zero-shape : {m : ℕ} (t : List ℕ) → Width m → length t ≡ tableSize → ((k : ℕ) → getD t k 0 ≡ 0) → Shape m t

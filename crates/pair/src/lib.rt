@@ -1,6 +1,7 @@
 // The pair of polynomials that meets the equations of a row (formula 9 of the paper), or the proof that there is none.
 // The equations stand in a working table, an unknown to a column: the coefficients of Q0, then those of Q1. Row i * r + j has depth j of chunk i.
 use defs::Code;
+use defs::DEEPEST;
 use defs::LONGEST;
 use defs::Refusal;
 use defs::Verdict;
@@ -111,7 +112,7 @@ fn write_chunk(
     t: &mut [u8; TABLE],
     m: usize,
     point: u8,
-    chunk: [u8; 8],
+    chunk: [u8; DEEPEST],
     r: usize,
     p: usize,
     s0: usize,

@@ -19,9 +19,10 @@ use defs::DEEPEST;
 use defs::LONGEST;
 use defs::Refusal;
 use defs::Verdict;
+use field::POWERS;
 
 // The logarithm of 0: it leads past the powers of every field, twice round, to where zeros stand.
-const NOWHERE: usize = 510;
+const NOWHERE: usize = POWERS;
 
 // The powers and the zeros behind them.
 const PLACES: usize = NOWHERE + 256;

@@ -9,7 +9,8 @@ use Rattle.theory.proofs.Limits.{count-small}
 use Rattle.code.specs.Checked.{pointsOf}
 use Rattle.solve.specs.Table.{stride}
 use Rattle.pair.specs.Fill.{System}
-use Rattle.pair.proofs.Systems.{code-numbers, code-symbols, code-point, zero-shape, chunk-fits, chunk-next, chunk-symbols, system-none, system-more, system-all}
+use Rattle.code.proofs.Known.{code-numbers, code-symbols, code-point}
+use Rattle.pair.proofs.Systems.{zero-shape, chunk-fits, chunk-next, chunk-symbols, system-none, system-more, system-all}
 use borrow.Author.Needs.{needs}
 use Rattle.pair.proofs.write_system.Statement.{statement}
 use Rattle.pair.proofs.write_system.Tie as tie
