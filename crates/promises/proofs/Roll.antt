@@ -1,11 +1,12 @@
 -- The first slip of a roll: one outcome, its header alone finds where it ends, what stands behind it changes nothing, and 12 is never answered.
-use Prim.Native.Nat.{ℕ, _<_, _≤_}
+use Prim.Native.Nat.{ℕ, _+_, _*_, _<_, _≤_}
 use mathlib.Core.Bool.{Bool, true, _||_}
 use mathlib.Core.Path.{_≡_, refl, ap, sym, _∙_}
 use mathlib.Core.List.{List, [], _∷_, _++_}
+use native.Mathlib.Nat.{mul-le-mul}
 use native.Mathlib.Decide.{decLt}
 use native.Mathlib.Omega.{arith}
-use lib.Dec.{eqb, ltb}
+use lib.Dec.{eqb, ltb, lit≤}
 use lib.ListN.{length, take, drop, length-append}
 use lib.Seq.{take-all, take-append-seam, take-append-le, drop-append-seam}
 use borrow.Author.Tests.{le-ltb}
@@ -21,6 +22,8 @@ use Rattle.defs.specs.declared.Verdict.{Verdict}
 use Rattle.defs.specs.declared.Verdict.the-variants.{Fine, Refused}
 use Rattle.defs.specs.declared.Answer.{Answer}
 use Rattle.defs.specs.declared.Answer.the-variants.{Refused as No}
+use Rattle.theory.proofs.Width.{by-width}
+use Rattle.theory.proofs.Limits.{numbers-known}
 use Rattle.theory.proofs.Verdict.{apart, then-fine, answer-refused, Every, every-fine}
 use Rattle.slip.proofs.Reader.{Begins, header-top, begins, begun, head-fine, sound}
 use Rattle.slip.proofs.Refusals.{first-every}
@@ -37,13 +40,21 @@ roll-parts-same roll s t s′ t′ p q p′ q′ = (p ∙ sym p′, q ∙ sym q�
 
 -- ---- the first part
 
-size-bottom : (bytes : List ℕ) → 3 ≤ sizeIn bytes
+-- a header, and a byte for the point and the symbol that are there at least
+size-bottom : (bytes : List ℕ) → numbersVerdict (widthIn bytes) (depthIn bytes) (dimensionIn bytes) (countIn bytes) ≡ Fine → 4 ≤ sizeIn bytes
 unfolding sizeIn slipSize
-size-bottom bytes = omega arith
+size-bottom bytes e =
+    let n = numbers-known _ _ _ _ e in
+    let symbols = countIn bytes + depthIn bytes * countIn bytes in
+    omega (
+      arith,
+      mul-le-mul {n₁ = 1} {m₁ = 1} {n₂ = symbols} {m₂ = widthIn bytes} (omega (arith, n .count-pos))
+          (by-width (λ m. 1 ≤ m) (lit≤ tt) (lit≤ tt) (lit≤ tt) (widthIn bytes) (n .width)),
+    )
 
 -- a roll that begins with a slip has a first part
-pub first-some : (roll : List ℕ) → firstVerdict roll ≡ Fine → 3 ≤ length (firstPart roll)
-first-some roll e = omega (arith, first-long roll e, size-bottom roll)
+pub first-some : (roll : List ℕ) → firstVerdict roll ≡ Fine → 4 ≤ length (firstPart roll)
+first-some roll e = omega (arith, first-long roll e, size-bottom roll (begins roll e .fine))
 
 -- an empty roll is done, and both parts are empty
 pub empty-done : (rollVerdict [] ≡ Fine) × (firstPart [] ≡ []) × (restPart [] ≡ [])
@@ -120,8 +131,9 @@ pub first-whole : (roll : List ℕ) → firstVerdict roll ≡ Fine → headVerdi
 first-whole roll e =
     let s = firstPart roll in
     let b = begins roll e in
-    let q : SameHead roll s = rw (parts-join roll) at (head-front s (restPart roll) (first-some roll e)) in
-    let whole : firstVerdict s ≡ Fine = begun s record { long = first-some roll e; edition = sym (q .edition) ∙ b .edition; fine = sym (numbers-same q) ∙ b .fine; size = omega (arith, size-same q, first-long roll e) } in
+    let some : 3 ≤ length s = omega (arith, first-some roll e) in
+    let q : SameHead roll s = rw (parts-join roll) at (head-front s (restPart roll) some) in
+    let whole : firstVerdict s ≡ Fine = begun s record { long = some; edition = sym (q .edition) ∙ b .edition; fine = sym (numbers-same q) ∙ b .fine; size = omega (arith, size-same q, first-long roll e) } in
     sym (head-fine s whole (omega (arith, size-same q, first-long roll e)))
 
 -- ---- with the longest slip in sight the rest of the roll changes nothing

@@ -1,5 +1,5 @@
 -- A code and a row that were written as a slip are read from it again.
-use Prim.Native.Nat.{ℕ, suc, _+_, _*_, _<_, _≤_}
+use Prim.Native.Nat.{ℕ, suc, _+_, _*_, _-_, _<_, _≤_}
 use mathlib.Core.Path.{_≡_, refl, ap, sym, _∙_}
 use mathlib.Core.List.{List, _++_}
 use native.Mathlib.Nat.{mul-suc, mul-comm, mul-le-mul-left, mod-eq-of-lt, zero-add}

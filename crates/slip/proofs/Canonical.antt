@@ -11,12 +11,15 @@ use lib.Seq.{getD-append-add}
 use Rattle.defs.specs.Field.{Width}
 use Rattle.defs.specs.Place.{least, tab, Symbols}
 use Rattle.defs.specs.Slip.{bits, allBits, numberAt, widthOf, fieldCode, slipSize, longestSlip, slipBits, slipOf, editionIn, widthIn, depthIn, countIn, dimensionIn, sizeIn, symbolsIn, pointsIn, rowIn, spareIn, usedIn, fillIn}
+use Rattle.defs.specs.Read.{readVerdict}
+use Rattle.defs.specs.declared.Verdict.the-variants.{Fine}
 use Rattle.theory.proofs.Place.{length-tab, getD-tab, tab-append, tab-same, tab-getD}
 use Rattle.theory.proofs.Width.{width-pos}
 use Rattle.slip.specs.Head.{headerBits}
 use Rattle.slip.proofs.Bits.{length-all-bits, all-bits-are, number-below, number-inside, number-nil, number-one, number-split, number-fields, number-bits, number-symbol, number-same, bits-told}
 use Rattle.slip.proofs.Packed.{byte-is, slip-bits-are, in-header, behind-header}
-use Rattle.slip.proofs.Reader.{Sound, points-few}
+use Rattle.slip.proofs.Reader.{Sound, sound, points-few, read-checked, read-clean, read-edition}
+use Rattle.slip.proofs.Taken.{length-points}
 use Rattle.slip.proofs.Writer.{size-top}
 
 lt-eq : {a b c : ℕ} → a < b → b ≡ c → a < c
@@ -155,3 +158,14 @@ module _ (bytes : List ℕ) (are : Symbols 8 bytes) (s : Sound bytes) where
         (tab-same _ (λ i. getD bytes i 0) (length bytes)
         (λ i l. number-same 8 (8 * i) (8 * i) B S (λ b h. bit-told (8 * i + b) (omega arith)) ∙ byte-is bytes are i)
         ∙ tab-getD bytes)
+
+-- THE BYTES OF A SLIP THAT IS READ ARE WHAT THE WRITER MAKES OF WHAT WAS READ
+pub slip-read-whole : (bytes : List ℕ) → Symbols 8 bytes → (count n : ℕ) → readVerdict bytes count n ≡ Fine
+    → slipOf (widthIn bytes) (depthIn bytes) (dimensionIn bytes) (pointsIn bytes) (rowIn bytes) ≡ bytes
+unfolding fillIn usedIn
+slip-read-whole bytes are count n e =
+    let s = sound bytes (read-checked bytes count n e) in
+    let loose = read-clean bytes count n e in
+    slip-told bytes are s
+    (rw (length-points bytes) (header-told bytes are s (read-edition bytes count n e) (omega arith)))
+    (rw (s .size) (omega arith))

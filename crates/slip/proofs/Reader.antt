@@ -228,6 +228,10 @@ module _ (bytes : List ℕ) (count n : ℕ) where
     unfolding readVerdict
     read-checked = then-fine _ _ e .0
 
+    pub read-edition : editionIn bytes ≡ 1
+    unfolding headVerdict
+    read-edition = begins bytes (then-fine (firstVerdict bytes) _ read-checked .0) .edition
+
     pub read-clean : spareIn bytes + fillIn bytes ≡ 0
     unfolding readVerdict
     read-clean = omega (arith, ltb-false 0 (spareIn bytes + fillIn bytes) (refuse-fine _ _ _ (then-fine (headVerdict bytes) _ e .1) .0))

@@ -38,7 +38,7 @@ module _ (bytes : List ℕ) where
   unfolding pointsIn
   points-low = symbols-in 0 (countIn bytes)
 
-  row-low : Symbols (widthIn bytes) (rowIn bytes)
+  pub row-low : Symbols (widthIn bytes) (rowIn bytes)
   unfolding rowIn
   row-low = symbols-in (countIn bytes) (depthIn bytes * countIn bytes)
 

@@ -1,9 +1,7 @@
 -- `first_size` meets its contract: the header's size where the roll begins with a slip.
 use borrow.Author.Needs.{needs}
-use mathlib.Core.Path.{_≡_, sym, ap, _∙_}
+use mathlib.Core.Path.{sym, ap, _∙_}
 use lib.ListN.{length}
-use Rattle.defs.specs.Read.{firstVerdict}
-use Rattle.defs.specs.declared.Verdict.the-variants.{Fine}
 use Rattle.roll.proofs.Parts.{none-found, first-long}
 use Rattle.roll.proofs.first_size.Statement.{statement}
 use Rattle.roll.proofs.first_size.Tie as tie

@@ -1,6 +1,5 @@
 -- `check_first` meets its contract: each way out by its lemma.
 use mathlib.Core.Path.{_≡_, sym, _∙_}
-use mathlib.Core.List.{List}
 use borrow.Author.Needs.{needs}
 use Rattle.defs.specs.Limits.{numbersVerdict}
 use Rattle.defs.specs.declared.Verdict.the-variants.{Fine}
