@@ -53,18 +53,26 @@ pub fn written(random: &mut Random) -> Vec<Vec<u8>> {
 pub fn roll(random: &mut Random) -> Drawn {
     let mut slips = written(random);
     let count = slips.len();
-    let way = random.pick(&Way::ALL);
+    let way = drawn_way(random, count);
     match way {
         Way::Good => (),
         Way::Cut => return cut(random, &slips),
         Way::NoiseBefore => slips.insert(0, noise(random)),
-        Way::NoiseBetween => slips.insert(random.between(0, count), noise(random)),
+        Way::NoiseBetween => slips.insert(random.between(1, count - 1), noise(random)),
         Way::NoiseBehind => slips.push(noise(random)),
     }
     Drawn {
         bytes: slips.concat(),
         slips: count,
         way,
+    }
+}
+
+/// One of the ways; there is no place between fewer than two slips.
+fn drawn_way(random: &mut Random, count: usize) -> Way {
+    match random.pick(&Way::ALL) {
+        Way::NoiseBetween if count < 2 => Way::NoiseBehind,
+        way => way,
     }
 }
 
