@@ -248,7 +248,7 @@ pub fn size_in(bytes: &[u8]) -> usize
 }
 
 // The same and then 12.
-pub fn check_head(bytes: &[u8]) -> Verdict
+fn check_head(bytes: &[u8]) -> Verdict
     ensures { λ v. ⌜ v ≡ headVerdict (now (bytes .entry)) ⌝ }
 {
     let v = check_first(bytes);

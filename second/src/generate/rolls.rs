@@ -57,12 +57,18 @@ pub fn written(random: &mut Random) -> Vec<Vec<u8>> {
 pub fn roll(random: &mut Random) -> Drawn {
     let mut slips = written(random);
     let count = slips.len();
-    let way = random.pick(&Way::ALL);
+    let way = drawn_way(random, count);
     match way {
         Way::Good => (),
-        Way::Cut => return cut(random, &slips),
+        Way::Cut => {
+            // a slip that is cut has bits that hold nothing, too
+            if random.percent(50) {
+                slips.iter_mut().for_each(|slip| loosen(random, slip));
+            }
+            return cut(random, &slips);
+        }
         Way::NoiseBefore => slips.insert(0, noise(random)),
-        Way::NoiseBetween => slips.insert(random.between(0, count), noise(random)),
+        Way::NoiseBetween => slips.insert(random.between(1, count - 1), noise(random)),
         Way::NoiseBehind => slips.push(noise(random)),
         Way::LooseBits => slips.iter_mut().for_each(|slip| loosen(random, slip)),
     }
@@ -80,6 +86,14 @@ pub fn loosen(random: &mut Random, slip: &mut [u8]) {
         if random.percent(50) {
             slips::flip(slip, bit);
         }
+    }
+}
+
+/// One of the ways; there is no place between fewer than two slips.
+fn drawn_way(random: &mut Random, count: usize) -> Way {
+    match random.pick(&Way::ALL) {
+        Way::NoiseBetween if count < 2 => Way::NoiseBehind,
+        way => way,
     }
 }
 
