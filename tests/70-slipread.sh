@@ -40,6 +40,9 @@ run < <(example); expect 'the example' "$line"
 run </dev/null; expect 'nothing' '10 0'
 run < <(example | head -c 3); expect 'half a slip' '10 0'
 run < <(example; example); expect 'two slips' '12 0'
+run < <(printf '\020\203\007\033\163\270'); expect 'the example with its spare bit set' '13 0'
+run < <(printf '\020\000\000\020'); expect 'the smallest slip' '0 0 | 1 | 0'
+run < <(printf '\020\000\000\021'); expect 'the smallest slip with a bit of its fill set' '13 0'
 run < <(printf 'no slip at all'); expect 'noise' '11 0'
 run < <(printf '\035\377\000noise'); expect 'noise with the edition of a slip' '1 0'
 run </dev/zero; expect 'endless zeros' '11 0'
@@ -79,6 +82,11 @@ of two words.slip: $line
 \$'of two\\nlines.slip': $line
 standard input: 10 0"
 run today.slip <&-; expect 'a file and a closed input' "$line"
+for twice in '- -' '- /dev/stdin'; do
+  # shellcheck disable=SC2086
+  run $twice < <(example; sleep 0.2)
+  troubled "the input as $twice" 2 'slipread: standard input cannot be read: it was read before' "standard input: $line"
+done
 run today.slip no-file today.slip
 troubled 'one of several missing' 2 'slipread: no-file cannot be read: ' "today.slip: $line
 today.slip: $line"
@@ -115,12 +123,14 @@ two_lines 'the program was removed'; troubled 'the program was removed' 0 'slipr
 # What else a build can do: a copy of the script beside the program, and a stand-in for rt that does what its file says
 tools=$dir/tools small=$dir/small/slipread
 mkdir "$tools" "$dir/small"
-for tool in bash awk cat dirname flock grep head mktemp readlink rm sed tee; do ln -s "$(command -v "$tool")" "$tools"; done
+for tool in bash cat dirname env flock head mktemp readlink rm sed setsid tail wc; do ln -s "$(command -v "$tool")" "$tools"; done
 cp slipread "$small"
 cp target/bin/slipread "$dir/built"
 small() { PATH=$tools "$small" "$@" >"$dir/out" 2>"$dir/err"; status=$?; }
 stand_in() { printf '%s\n' '#!/bin/sh' "PATH=$PATH" "dir=$dir" "$@" >"$tools/rt" && chmod +x "$tools/rt"; }
 small "$dir/files/today.slip"; troubled 'no toolchain' 3 'slipread: the Rattle toolchain is missing'
+mv "$tools/wc" "$dir"; small "$dir/files/today.slip"; troubled 'no wc' 3 'slipread: there is no wc on the PATH'; mv "$dir/wc" "$tools"
+TMPDIR=$dir/none small "$dir/files/today.slip"; troubled 'no temporary folder' 3 'slipread: no temporary folder could be made in '
 
 mkfifo "$dir/go"
 exec 8<>"$dir/go"
@@ -151,8 +161,49 @@ nobody=()
 [ "$(id -u)" -ne 0 ] || nobody=(setpriv --reuid=65534 --regid=65534 --clear-groups)
 PATH=$tools:$PATH "${nobody[@]}" "$small" "$dir/files/secret" >"$dir/out" 2>"$dir/err"; status=$?
 troubled 'a file without permission' 2 "slipread: $dir/files/secret cannot be read: "
-printf '#!/bin/sh\nexit 5\n' >"$dir/small/target/bin/slipread"
-small "$dir/files/today.slip"; troubled 'a program that fails' 3 'slipread: the program failed with status 5'
+
+# Links beside the script: its program is that of the first name that is one
+ln -s slipread "$dir/small/reader"
+ln -s small/reader "$dir/desk"
+cp slipread "$dir/small/copy"
+for small in "$dir/small/reader" "$dir/desk"; do
+  small "$dir/files/today.slip"; expect "the link $small" "$line"
+done
+small=$dir/small/copy; small "$dir/files/today.slip"; troubled 'a copy under another name' 3 'copy: there is no program of this name'
+small=$dir/small/slipread
+
+# A signal ends a build with all that it started, so that the next run need not wait for the lock
+# shellcheck disable=SC2016
+stand_in 'sleep 100 &' 'echo >"$dir/building"' 'wait'
+PATH=$tools TMPDIR=$dir/tmp "$small" "$dir/files/today.slip" >"$dir/out" 2>"$dir/err" &
+soon test -e "$dir/building" || fail 'a signal in a build: it does not begin'
+kill -TERM $!
+wait $!
+status=$?
+[ "$status" -eq 143 ] || met 'a signal in a build' '143'
+soon flock -n "$dir/small" true || fail 'a signal in a build: what it started still runs'
+stand_in 'exit 0'
+
+# Programs that do not do their part: what they wrote is no line
+program() { printf '%s\n' '#!/bin/sh' "$@" >"$dir/small/target/bin/slipread"; }
+program 'exit 5'; small "$dir/files/today.slip"; troubled 'a program that fails' 3 'slipread: the program failed with status 5'
+for wrote in '' '0 2 | 1 2' '0 2\n0 2\n' '0 2\n0 2' '\n0 2'; do
+  program "printf '$wrote'"; small "$dir/files/today.slip"
+  troubled "a program that writes '$wrote'" 3 'slipread: the program failed: its line is missing or cut'
+done
+
+# The guide has a phrase for all words that the script says, and no other; three places say the same of status 3
+# shellcheck disable=SC2016
+sed -n '/^## Words/,$p' docs/clerk.md | sed -n 's/^| \(`[^|]*\)|.*/\1/p' | grep -oE '`[^`]+`' | tr -d '`' >"$dir/phrases"
+grep -oE "say ['\"].*" slipread >"$dir/said"
+! grep -vFf "$dir/phrases" "$dir/said" || fail 'docs/clerk.md does not have the words above'
+[ "$(wc -l <"$dir/said")" -ge 12 ] || fail "the script says only $(wc -l <"$dir/said") things"
+while IFS= read -r phrase; do
+  grep -qF -- "$phrase" "$dir/said" || fail "docs/clerk.md has '$phrase', which the script does not say"
+done <"$dir/phrases"
+for file in slipread README.md docs/clerk.md; do
+  tr '\n' ' ' <"$file" | grep -qF 'the program could not be built or run' || fail "$file has other words for status 3"
+done
 
 # Nothing stays behind, on a signal neither: no temporary file, and no reader that waits for the input
 left_over() { [ -z "$(ls -A "$dir/tmp")" ] || fail "temporary files stay behind: $(ls "$dir/tmp")"; }

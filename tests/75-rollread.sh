@@ -30,6 +30,8 @@ troubled() {
 example() { printf '\020\203\006\033\163\270'; }
 three() { example; example; example; }
 three >"$dir/day.roll"
+# bytewise: the example three times, each byte for itself
+bytewise() { for code in {,,}{020,203,006,033,163,270}; do printf '%b' "\\0$code"; sleep 0.02; done; }
 
 # What comes in
 run "$rollread" <"$dir/day.roll"; expect 'the example three times' "$line"$'\n'{,,}
@@ -40,9 +42,19 @@ run "$rollread" < <(example; printf 'noise'; example); expect 'noise between' "$
 run "$rollread" < <(printf '\034\000\000'; three); expect 'noise in front' '1 0'$'\n'
 run "$rollread" < <(three; printf '\020'); expect 'noise behind' "$line"$'\n'{,,} '10 0'$'\n'
 run "$rollread" < <(printf '\020\001\000\000'; example); expect 'a slip that is refused' '6 1'$'\n' "$line"$'\n'
+run "$rollread" < <(printf '\020\000\000\021\020\203\007\033\163\270'; example)
+expect 'slips with bits of spare and fill set' '13 0'$'\n'{,} "$line"$'\n'
 run "$rollread" < <(example; yes); expect 'a slip and endless noise' "$line"$'\n' '11 0'$'\n'
-run "$rollread" < <(example | head -c 2; sleep 1; example | tail -c 4); expect 'a roll that comes in parts' "$line"$'\n'
-run "$rollread" < <(dd if="$dir/day.roll" bs=1 status=none); expect 'byte by byte' "$line"$'\n'{,,}
+# the script's head gathers what comes in, so the program itself gets these too
+for reader in "$rollread" "$program"; do
+  run "$reader" < <(example | head -c 2; sleep 0.2; example | tail -c 4); expect 'a roll that comes in parts' "$line"$'\n'
+  run "$reader" < <(bytewise); expect 'byte by byte' "$line"$'\n'{,,}
+done
+# noise that is longer than what is read of it: no more is wanted, also where the caller ignores a broken pipe
+{ example; head -c 1000000 /dev/zero; } >"$dir/noise.roll"
+run "$rollread" "$dir/noise.roll"; expect 'a slip and long noise' "$line"$'\n' '11 0'$'\n'
+(trap '' PIPE; exec "$rollread" "$dir/noise.roll" >"$dir/out" 2>"$dir/err"); status=$?
+expect 'the same with a broken pipe ignored' "$line"$'\n' '11 0'$'\n'
 run "$rollread" "$dir/day.roll" /dev/null - < <(example; printf '\020')
 expect 'several' "$dir/day.roll: $line"$'\n'{,,} "standard input: $line"$'\n' 'standard input: 10 0'$'\n'
 
@@ -62,14 +74,44 @@ for size in {0..18}; do
   expect "a roll cut to $size bytes" ${lines[@]+"${lines[@]}"}
 done
 
-# 10 MB in which slips lie across every part of the buffer: the longest slip (259 bytes, all its points 0, which is refused with 6),
-# the example, and so on; then a byte too few. It has less memory than the roll
-{ printf '\030\177\002'; head -c 256 /dev/zero; example; } >"$dir/pair"
-for _ in {1..14}; do cat "$dir/pair" "$dir/pair" >"$dir/twice" && mv "$dir/twice" "$dir/pair"; done
-pairs=16384 # of 265 bytes
-for _ in 1 2 3; do cat "$dir/pair"; done | head -c -1 >"$dir/long.roll"
-[ "$(wc -c <"$dir/long.roll")" -eq $((3 * pairs * 265 - 1)) ] || fail 'the long roll has another length'
-for ((i = 0; i < 3 * pairs - 1; i++)); do printf '6 1\n%s\n' "$line"; done >"$dir/lines"
+# repeat COUNT FILE: the file so many times
+repeat() { yes "$2" | head -n "$1" | xargs cat; }
+
+# walks NAME ROLL: the program writes $dir/lines for this roll, from a file and from a pipe that delivers parts
+walks() {
+  "$program" <"$2" >"$dir/out" || fail "$1: the program failed"
+  same "$dir/lines" "$dir/out"
+  dd if="$2" bs=1000 status=none | "$program" >"$dir/out" || fail "$1, by a pipe: the program failed"
+  same "$dir/lines" "$dir/out"
+  count=$((count + 2))
+}
+
+# The buffer has 65,536 bytes: 16,384 slips of 4 bytes fill it, and then the roll ends. A byte less, a byte more, and a full
+# buffer that ends within a slip: all have the lines of the whole slips and then 10
+printf '\020\000\000\020' >"$dir/least" # m 2, r 1, k 1, the point 0 and the symbol 1
+repeat 16384 "$dir/least" >"$dir/full.roll"
+[ "$(wc -c <"$dir/full.roll")" -eq 65536 ] || fail 'the full roll has another length'
+yes '0 0 | 1 | 0' | head -n 16384 >"$dir/lines"; walks 'a full buffer' "$dir/full.roll"
+echo '10 0' >>"$dir/lines"
+{ cat "$dir/full.roll"; printf '\020'; } >"$dir/cut.roll"; walks 'a full buffer and a byte' "$dir/cut.roll"
+{ yes '0 0 | 1 | 0' | head -n 16383; echo '10 0'; } >"$dir/lines"
+head -c -1 "$dir/full.roll" >"$dir/cut.roll"; walks 'a buffer less a byte' "$dir/cut.roll"
+{ echo "$line"; yes '0 0 | 1 | 0' | head -n 16382; echo '10 0'; } >"$dir/lines"
+{ example; head -c 65530 "$dir/full.roll"; } >"$dir/cut.roll"; walks 'a full buffer that ends within a slip' "$dir/cut.roll"
+
+# The longest slip has 259 bytes; all points of this one are 0, which is refused with 6. Behind 10 bytes the first buffer ends
+# with 258 of it, so a program that goes on with less in sight than the longest slip refuses it with 10
+{ printf '\030\177\002'; head -c 256 /dev/zero; } >"$dir/longest"
+{ cat "$dir/least"; example; repeat 600 "$dir/longest"; } >"$dir/window.roll"
+[ "$(wc -c <"$dir/window.roll")" -eq $((10 + 600 * 259)) ] || fail 'the roll of longest slips has another length'
+{ echo '0 0 | 1 | 0'; echo "$line"; yes '6 1' | head -n 600; } >"$dir/lines"; walks 'the longest slip less a byte in sight' "$dir/window.roll"
+
+# 13 MB: the longest slip, the example, and so on; then a byte too few. The program has less memory than the roll
+{ cat "$dir/longest"; example; } >"$dir/pair"
+pairs=49152 # of 265 bytes
+repeat "$pairs" "$dir/pair" | head -c -1 >"$dir/long.roll"
+[ "$(wc -c <"$dir/long.roll")" -eq $((pairs * 265 - 1)) ] || fail 'the long roll has another length'
+for ((i = 0; i < pairs - 1; i++)); do printf '6 1\n%s\n' "$line"; done >"$dir/lines"
 printf '6 1\n10 0\n' >>"$dir/lines"
 (ulimit -v 8192 && "$program" <"$dir/long.roll" >"$dir/out") || fail 'a long roll: the program failed'
 same "$dir/lines" "$dir/out"

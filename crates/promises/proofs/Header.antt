@@ -1,10 +1,9 @@
 -- The first three bytes have the header: what stands behind them changes none of its numbers.
-use Prim.Native.Nat.{ℕ, _+_, _*_, _≤_}
+use Prim.Native.Nat.{ℕ, _+_, _≤_}
 use mathlib.Core.Path.{_≡_, refl, sym, _∙_}
 use mathlib.Core.List.{List, [], _∷_, _++_, append-assoc}
-use native.Mathlib.Nat.{mul-zero, mul-suc, add-comm}
 use native.Mathlib.Omega.{arith}
-use lib.ListN.{length, take, drop, length-append, take-append-drop}
+use lib.ListN.{length, take, drop, take-append-drop}
 use lib.Seq.{length-take-le}
 use Rattle.defs.specs.Limits.{numbersVerdict}
 use Rattle.defs.specs.Slip.{allBits, numberAt, editionIn, widthIn, depthIn, countIn, dimensionIn, sizeIn}

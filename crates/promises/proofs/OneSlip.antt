@@ -3,25 +3,28 @@ use Prim.Native.Nat.{ℕ, _+_, _*_, _<_, _≤_}
 use mathlib.Core.Path.{_≡_, refl, ap, sym, _∙_}
 use mathlib.Core.List.{List, [], _++_, append-nil}
 use native.Mathlib.Omega.{arith}
-use lib.ListN.{length, getD, take, drop}
+use lib.ListN.{length, getD, take}
 use lib.Seq.{take-all, drop-length}
 use Rattle.defs.specs.Place.{Symbols}
 use Rattle.defs.specs.Refusal.{answer, kept}
 use Rattle.defs.specs.Slip.{allBits, numberAt, slipSize, slipOf, editionIn, widthIn, depthIn, countIn, dimensionIn, sizeIn, pointsIn, rowIn, usedIn}
 use Rattle.defs.specs.Write.{front, Written}
 use Rattle.defs.specs.Read.{firstVerdict, headVerdict, readVerdict, reading, Read}
-use Rattle.defs.specs.Roll.{Walk, rollVerdict, firstPart, joined, walk}
-use Rattle.defs.specs.declared.Verdict.the-variants.{Fine}
+use Rattle.defs.specs.Roll.{rollVerdict, firstPart, joined, walk}
+use Rattle.defs.specs.declared.Verdict.{Verdict}
+use Rattle.defs.specs.declared.Verdict.the-variants.{Fine, Refused}
 use Rattle.defs.specs.declared.Answer.the-variants.{Done}
 use Rattle.defs.specs.declared.SlipRead.{SlipRead}
 use Rattle.slip.proofs.Bits.{number-same}
-use Rattle.slip.proofs.Canonical.{slip-read-whole}
+use Rattle.slip.proofs.Canonical.{size-is, slip-read-whole}
 use Rattle.slip.proofs.Taken.{length-points, length-row, row-low, read-sound, inside}
 use Rattle.slip.proofs.Writer.{writable-fine}
 use Rattle.promises.proofs.Header.{SameHead, numbers-same, size-same}
+use Rattle.roll.proofs.Parts.{none-found}
 use Rattle.promises.proofs.RoundTrip.{round-trip}
+use Rattle.promises.proofs.Roll.{rolls-same, first-some}
 use Rattle.promises.proofs.Taken.{fine, s-is, points-in, row-in}
-use Rattle.promises.proofs.Walk.{Made, Walked, walked, whole-walk, found-whole, left-none}
+use Rattle.promises.proofs.Walk.{Made, walked, whole-walk, found-whole, left-none}
 
 -- BYTES THAT THE WRITER MAKES ARE READ, with room for the points and the row
 pub made-read : (bytes : List ℕ) (x : Made bytes) (points row points′ row′ : List ℕ) (s : SlipRead) → length (x .points) ≤ length points → length (x .w) ≤ length row
@@ -38,8 +41,7 @@ module _ (bytes : List ℕ) (are : Symbols 8 bytes) (points row points′ row′
   whole = slip-read-whole bytes are _ _ taken
 
   size : slipSize (widthIn bytes) (length (pointsIn bytes) + length (rowIn bytes)) ≡ length bytes
-  unfolding sizeIn
-  size = rw (length-points bytes, length-row bytes) (sym (read-sound bytes _ _ taken .size))
+  size = size-is bytes are (read-sound bytes _ _ taken)
 
   written : Written (widthIn bytes) (depthIn bytes) (dimensionIn bytes) (pointsIn bytes) (rowIn bytes) bytes (Done (length bytes)) bytes
   unfolding answer kept front
@@ -100,18 +102,32 @@ module _ (s t : List ℕ) (x : Alike s t) where
     dimension = rw (field-same 7 16 (omega arith));
   }
 
-  alike-head : headVerdict s ≡ headVerdict t
-  unfolding headVerdict firstVerdict
-  alike-head =
+  alike-first : firstVerdict s ≡ firstVerdict t
+  unfolding firstVerdict
+  alike-first =
       let h = heads-alike in
       rw (x .size, h .edition, numbers-same h, size-same h)
 
--- ROLLS THAT DIFFER ONLY THERE are walked into slips of the same sizes, and the walk ends alike
-pub alike-walk : (roll : List ℕ) (slips : List (List ℕ)) → length slips ≡ length (walk roll .slips)
-    → ((i : ℕ) → i < length slips → Alike (getD (walk roll .slips) i []) (getD slips i []))
-    → walk (joined slips ++ walk roll .left) ≡ record { slips = slips; left = walk roll .left; ended = walk roll .ended }
+  alike-head : headVerdict s ≡ headVerdict t
+  unfolding headVerdict
+  alike-head = rw (alike-first, x .size, size-same heads-alike)
+
+  alike-roll : rollVerdict s ≡ rollVerdict t
+  alike-roll = rolls-same s t (x .size) alike-first
+
+  none-alike : length (firstPart s) ≡ 0 → length (firstPart t) ≡ 0
+  none-alike n = go (firstVerdict t) refl
+    where
+      go : (v : Verdict) → firstVerdict t ≡ v → length (firstPart t) ≡ 0
+      go Fine e = absurd (omega (arith, first-some s (alike-first ∙ e)))
+      go (Refused y) e = ap length (none-found t y e)
+
+-- ROLLS THAT DIFFER ONLY THERE are walked into slips of the same sizes, and the walk ends alike; a last slip that is cut may differ there too
+pub alike-walk : (roll : List ℕ) (slips : List (List ℕ)) (left : List ℕ) → length slips ≡ length (walk roll .slips)
+    → ((i : ℕ) → i < length slips → Alike (getD (walk roll .slips) i []) (getD slips i [])) → Alike (walk roll .left) left
+    → walk (joined slips ++ left) ≡ record { slips = slips; left = left; ended = walk roll .ended }
 unfolding walk
-alike-walk roll slips n h =
-    rw (walked roll .ends)
-    (whole-walk slips (λ i l. sym (alike-head _ _ (h i l)) ∙ found-whole roll i (omega arith)) (walk roll .left) (left-none roll)
-    (length (joined slips ++ walk roll .left)) (omega arith))
+alike-walk roll slips left n h x =
+    rw (walked roll .ends, alike-roll _ _ x)
+    (whole-walk slips (λ i l. sym (alike-head _ _ (h i l)) ∙ found-whole roll i (omega arith)) left (none-alike _ _ x (left-none roll))
+    (length (joined slips ++ left)) (omega arith))

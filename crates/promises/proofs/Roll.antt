@@ -70,7 +70,7 @@ pub refused-parts : (roll : List ℕ) (x : Refusal) → rollVerdict roll ≡ Ref
 unfolding firstPart restPart kept
 refused-parts roll x e = (rw e, rw e)
 
-rolls-same : (a b : List ℕ) → length a ≡ length b → firstVerdict a ≡ firstVerdict b → rollVerdict a ≡ rollVerdict b
+pub rolls-same : (a b : List ℕ) → length a ≡ length b → firstVerdict a ≡ firstVerdict b → rollVerdict a ≡ rollVerdict b
 unfolding rollVerdict
 rolls-same [] [] l e = refl
 rolls-same (x ∷ s) (y ∷ t) l e = e
@@ -192,8 +192,12 @@ never-long roll e = go (rollVerdict roll) (roll-every roll) e
     go Fine h q = omega arith
     go (Refused x) h q = apart (cc (h .of x refl, q))
 
--- its line is that of the reader, which refuses it by the same number
+-- AS FOR A SLIP: the reader refuses the same bytes by the same number, whatever room it is given
+pub refused-read : (roll : List ℕ) (x : Refusal) → rollVerdict roll ≡ Refused x → (count n : ℕ) → readVerdict roll count n ≡ Refused x
+unfolding rollVerdict readVerdict headVerdict andThen
+refused-read [] x e count n = absurd (apart cc)
+refused-read (b ∷ s) x e count n = rw e refl
+
+-- so its line is the reader's
 pub refused-line : (roll : List ℕ) (x : Refusal) → answer (rollVerdict roll) 0 ≡ No x → Line roll (lineOf (No x) [] [])
-unfolding rollVerdict answer readVerdict headVerdict andThen
-refused-line [] x e = absurd (apart cc)
-refused-line (b ∷ s) x e = refused x (rw (answer-refused (firstVerdict (b ∷ s)) 0 x e)) refl
+refused-line roll x e = refused x (refused-read roll x (answer-refused (rollVerdict roll) 0 x e) _ _) refl

@@ -2,15 +2,16 @@
 use Prim.Native.Nat.{ℕ, zero, suc, _+_, _*_, _-_, _/_, _%_, _^_, _<_, _≤_}
 use mathlib.Core.Path.{_≡_, refl, ap, sym, _∙_}
 use mathlib.Core.List.{List, [], _∷_, _++_}
-use native.Mathlib.Nat.{zero-add, add-zero, suc-add, add-suc, add-comm, add-assoc, zero-mul, mul-zero, mul-suc, add-mul, mul-assoc, mul-le-mul-right, zero-mod, mod-one, mod-lt, pow-suc}
+use native.Mathlib.Nat.{zero-add, add-zero, suc-add, add-suc, add-comm, add-assoc, zero-mul, mul-zero, mul-suc, add-mul, mul-assoc, mul-le-mul-right, zero-mod, mod-one, mod-lt, mod-eq-of-lt, div-add-mod', div-lt-iff-lt-mul, mul-comm, pow-suc}
 use native.Mathlib.Numerals.{one-add}
 use native.Mathlib.Omega.{arith}
 use lib.Dec.{lit<}
 use lib.ListN.{length, getD, length-append, List·getD-append, List·getD-eq-default}
 use lib.Pow.{pow-add, mod-pow-add, high, low}
 use lib.Seq.{getD-append-add}
-use Rattle.defs.specs.Place.{Symbols}
+use Rattle.defs.specs.Place.{tab, Symbols}
 use Rattle.defs.specs.Slip.{bits, allBits, numberAt}
+use Rattle.theory.proofs.Place.{getD-tab}
 
 -- ---- lists of bits
 
@@ -130,3 +131,19 @@ number-symbol w [] j = rw zero-mod (number-nil w (w * j))
 number-symbol w (x ∷ s) zero = rw mul-zero (number-field w x (allBits w s))
 number-symbol w (x ∷ s) (suc j) =
     rw (mul-suc, add-comm, number-past w (w * j) w x (allBits w s)) (number-symbol w s j)
+
+-- the bits of the symbols that were read out of bits are these bits
+pub symbols-told : (m p n : ℕ) (s : List ℕ) → 0 < m → Symbols 1 s → (i : ℕ) → i < m * n
+    → getD (allBits m (tab (λ j. numberAt m (p + m * j) s) n)) i 0 ≡ getD s (p + i) 0
+symbols-told m p n s pos h i l =
+    let T : List ℕ = tab (λ j. numberAt m (p + m * j) s) n in
+    let j = i / m in
+    let b = i % m in
+    let whole : m * j + b ≡ i = ap (λ (x : ℕ). x + i % m) (mul-comm m (i / m)) ∙ div-add-mod' i m in
+    let there : j < n = div-lt-iff-lt-mul pos .1 (omega (arith, mul-comm m n)) in
+    let symbol : numberAt m (m * j) (allBits m T) ≡ numberAt m (p + m * j) s =
+    number-symbol m T j ∙ rw (getD-tab (λ j. numberAt m (p + m * j) s) n j there) (mod-eq-of-lt (number-below m (p + m * j) s h)) in
+    let told : getD (allBits m T) (m * j + b) 0 ≡ getD s (p + m * j + b) 0 =
+    bits-told m (m * j) (p + m * j) (allBits m T) s (all-bits-are m T) h symbol b (mod-lt i pos) in
+    let place : p + m * j + b ≡ p + i = omega arith in
+    rw (whole, place) at told

@@ -1,45 +1,25 @@
 -- Bytes that are read as a slip, with nothing in the bits that hold nothing, are the bytes that the writer makes of what was read.
 use Prim.Native.Nat.{ℕ, zero, suc, _+_, _*_, _-_, _/_, _%_, _^_, _<_, _≤_}
 use mathlib.Core.Path.{_≡_, refl, ap, sym, _∙_}
-use mathlib.Core.List.{List, [], _∷_, _++_}
-use native.Mathlib.Nat.{zero-add, mul-comm, mod-lt, mod-eq-of-lt, add-assoc, div-add-mod', div-lt-iff-lt-mul, div-one, pow-zero}
+use mathlib.Core.List.{List, [], _++_}
+use native.Mathlib.Nat.{zero-add, mul-comm, div-one, pow-zero}
 use native.Mathlib.Omega.{arith}
 use native.Mathlib.Decide.{decLt}
 use lib.Dec.{lit<}
 use lib.ListN.{length, getD, List·getD-eq-default}
-use lib.Seq.{getD-append-add}
 use Rattle.defs.specs.Field.{Width}
 use Rattle.defs.specs.Place.{least, tab, Symbols}
-use Rattle.defs.specs.Slip.{bits, allBits, numberAt, widthOf, fieldCode, slipSize, longestSlip, slipBits, slipOf, editionIn, widthIn, depthIn, countIn, dimensionIn, sizeIn, symbolsIn, pointsIn, rowIn, spareIn, usedIn, fillIn}
+use Rattle.defs.specs.Slip.{allBits, numberAt, widthOf, fieldCode, slipSize, slipBits, slipOf, editionIn, widthIn, depthIn, countIn, dimensionIn, sizeIn, symbolsIn, pointsIn, rowIn, spareIn, usedIn, fillIn}
 use Rattle.defs.specs.Read.{readVerdict}
 use Rattle.defs.specs.declared.Verdict.the-variants.{Fine}
-use Rattle.theory.proofs.Place.{length-tab, getD-tab, tab-append, tab-same, tab-getD}
+use Rattle.theory.proofs.Place.{length-tab, tab-append, tab-same, tab-getD}
 use Rattle.theory.proofs.Width.{width-pos}
 use Rattle.slip.specs.Head.{headerBits}
-use Rattle.slip.proofs.Bits.{length-all-bits, all-bits-are, number-below, number-inside, number-nil, number-one, number-split, number-fields, number-bits, number-symbol, number-same, bits-told}
+use Rattle.slip.proofs.Bits.{length-all-bits, all-bits-are, number-below, number-inside, number-nil, number-one, number-split, number-fields, number-bits, number-same, bits-told, symbols-told}
 use Rattle.slip.proofs.Packed.{byte-is, slip-bits-are, in-header, behind-header}
 use Rattle.slip.proofs.Reader.{Sound, sound, points-few, read-checked, read-clean, read-edition}
 use Rattle.slip.proofs.Taken.{length-points}
 use Rattle.slip.proofs.Writer.{size-top}
-
-lt-eq : {a b c : ℕ} → a < b → b ≡ c → a < c
-lt-eq l e = omega arith
-
--- the bits of the symbols that were read out of bits are these bits
-pub symbols-told : (m p n : ℕ) (s : List ℕ) → 0 < m → Symbols 1 s → (i : ℕ) → i < m * n
-    → getD (allBits m (tab (λ j. numberAt m (p + m * j) s) n)) i 0 ≡ getD s (p + i) 0
-symbols-told m p n s pos h i l =
-    let T : List ℕ = tab (λ j. numberAt m (p + m * j) s) n in
-    let j = i / m in
-    let b = i % m in
-    let whole : m * j + b ≡ i = ap (λ (x : ℕ). x + i % m) (mul-comm m (i / m)) ∙ div-add-mod' i m in
-    let there : j < n = div-lt-iff-lt-mul pos .1 (lt-eq l (mul-comm m n)) in
-    let symbol : numberAt m (m * j) (allBits m T) ≡ numberAt m (p + m * j) s =
-    number-symbol m T j ∙ rw (getD-tab (λ j. numberAt m (p + m * j) s) n j there) (mod-eq-of-lt (number-below m (p + m * j) s h)) in
-    let told : getD (allBits m T) (m * j + b) 0 ≡ getD s (p + m * j + b) 0 =
-    bits-told m (m * j) (p + m * j) (allBits m T) s (all-bits-are m T) h symbol b (mod-lt i pos) in
-    let place : p + m * j + b ≡ p + i = omega arith in
-    rw (whole, place) at told
 
 -- a field is told by its width
 field-told : (f : ℕ) → Width (widthOf f) → fieldCode (widthOf f) ≡ f
@@ -108,6 +88,10 @@ module _ (bytes : List ℕ) (are : Symbols 8 bytes) (s : Sound bytes) where
       (omega
       (arith, edition, spare, field-told (numberAt 2 4 S) (s .numbers .width), number-below 2 4 S S-are, number-below 3 6 S S-are, number-below 7 9 S S-are, number-below 7 16 S S-are)))
 
+  pub size-is : slipSize m (length (pointsIn bytes) + length (rowIn bytes)) ≡ length bytes
+  unfolding pointsIn rowIn symbolsIn sizeIn
+  size-is = rw (length-tab, length-tab) (sym (s .size))
+
   module _ (header : numberAt 24 0 (headerBits m (depthIn bytes) (dimensionIn bytes) (length (pointsIn bytes))) ≡ numberAt 24 0 S)
       (fill : numberAt (8 * length bytes - (24 + m * N)) (24 + m * N) S ≡ 0) where
     abbrev B : List ℕ
@@ -146,10 +130,6 @@ module _ (bytes : List ℕ) (are : Symbols 8 bytes) (s : Sound bytes) where
             let e : 24 + (p - 24) ≡ p = omega arith in
             ap (λ (x : ℕ). getD B x 0) (sym e) ∙ behind (p - 24)
             ∙ List·getD-eq-default (allBits m (pointsIn bytes ++ rowIn bytes)) 0 {n = p - 24} (omega (arith, body-size)) ∙ sym (filled (omega arith))
-
-    size-is : slipSize m (length (pointsIn bytes) + length (rowIn bytes)) ≡ length bytes
-    unfolding pointsIn rowIn symbolsIn sizeIn
-    size-is = rw (length-tab, length-tab) (sym (s .size))
 
     slip-told : slipOf m (depthIn bytes) (dimensionIn bytes) (pointsIn bytes) (rowIn bytes) ≡ bytes
     unfolding slipOf

@@ -1,14 +1,13 @@
 -- A slip that the reader takes: its code is inside the limits, and its row is one that the decoder takes.
-use Prim.Native.Nat.{ℕ, _+_, _*_, _^_, _<_, _≤_}
+use Prim.Native.Nat.{ℕ, _+_, _*_, _^_, _<_}
 use mathlib.Core.Path.{_≡_, refl, sym, _∙_}
 use mathlib.Core.List.{List}
 use native.Mathlib.Decide.{decLt}
 use native.Mathlib.Omega.{arith}
 use lib.ListN.{length, getD, List·getD-eq-default}
 use lib.Pow.{pow-pos}
-use borrow.Author.Tests.{ltb-false}
 use Rattle.defs.specs.Place.{Symbols, tab}
-use Rattle.defs.specs.Limits.{firstTwice, Inside}
+use Rattle.defs.specs.Limits.{Inside}
 use Rattle.defs.specs.Decode.{decodeVerdict}
 use Rattle.defs.specs.Slip.{allBits, numberAt, widthIn, depthIn, countIn, dimensionIn, symbolsIn, pointsIn, rowIn}
 use Rattle.defs.specs.Read.{readVerdict}
@@ -16,7 +15,6 @@ use Rattle.defs.specs.declared.Verdict.the-variants.{Fine}
 use Rattle.theory.proofs.Place.{length-tab, getD-tab}
 use Rattle.theory.proofs.Limits.{none-twice, limits-inside}
 use Rattle.theory.proofs.Checks.{decode-fine}
-use Rattle.theory.proofs.Verdict.{refuse-fine, then-fine}
 use Rattle.slip.proofs.Bits.{all-bits-are, number-below}
 use Rattle.slip.proofs.Front.{length-symbols}
 use Rattle.slip.proofs.Reader.{Sound, sound, read-checked, read-once}

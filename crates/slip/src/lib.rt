@@ -248,7 +248,7 @@ pub fn size_in(bytes: &[u8]) -> usize
 }
 
 // The same and then 12.
-pub fn check_head(bytes: &[u8]) -> Verdict
+fn check_head(bytes: &[u8]) -> Verdict
     ensures { λ v. ⌜ v ≡ headVerdict (now (bytes .entry)) ⌝ }
 {
     let v = check_first(bytes);
@@ -282,7 +282,7 @@ fn loose_bits(bytes: &[u8], m: usize, symbols: usize) -> usize
 }
 
 // The checks of the reader. count and n are the lengths of its two buffers.
-pub fn check_read(bytes: &[u8], count: usize, n: usize) -> Verdict
+fn check_read(bytes: &[u8], count: usize, n: usize) -> Verdict
     ensures { λ v. ⌜ v ≡ readVerdict (now (bytes .entry)) count n ⌝ }
 {
     let v = check_head(bytes);
@@ -290,16 +290,18 @@ pub fn check_read(bytes: &[u8], count: usize, n: usize) -> Verdict
         return Verdict::Refused(x);
     }
     let head = head_of(bytes);
-    let symbols = head.r * head.count;
-    let loose = loose_bits(bytes, head.m, head.count + symbols);
-    let twice = twice_in(bytes, head.m, head.count);
+    let held = head.count;
+    let symbols = head.r * held;
+    // both are looked for first, so that the checks are one chain of comparisons
+    let loose = loose_bits(bytes, head.m, held + symbols);
+    let twice = twice_in(bytes, head.m, held);
     if 0 < loose {
         return Verdict::Refused(Refusal::SlipBits);
     }
-    if twice < head.count {
+    if twice < held {
         return Verdict::Refused(Refusal::PointTwice(twice));
     }
-    if count < head.count {
+    if count < held {
         return Verdict::Refused(Refusal::Length);
     }
     if n < symbols {

@@ -93,12 +93,12 @@ unfolding tab
 tab-snoc F zero = refl
 tab-snoc F (suc n) = ap (λ (l : List ℕ). F zero ∷ l) (tab-snoc (λ i. F (suc i)) n)
 
--- two functions that agree below n have one list
 pub tab-append : (F : ℕ → ℕ) (a b : ℕ) → tab F (a + b) ≡ tab F a ++ tab (λ j. F (a + j)) b
 unfolding tab
 tab-append F zero b = simp zero-add
 tab-append F (suc a) b = rw (suc-add, tab-append (λ i. F (suc i)) a b) (simp suc-add)
 
+-- two functions that agree below n have one list
 pub tab-same : (F G : ℕ → ℕ) (n : ℕ) → ((i : ℕ) → i < n → F i ≡ G i) → tab F n ≡ tab G n
 unfolding tab
 tab-same F G zero h = refl

@@ -1,6 +1,8 @@
 -- `plq_roll_first`: a number and a slip's size are small enough to be packed.
 use Prim.Native.Nat.{_≤_}
+use mathlib.Core.Path.{ap, _∙_}
 use native.Mathlib.Omega.{arith}
+use Rattle.defs.specs.Refusal.{number}
 use Rattle.defs.specs.Slip.{slipSize}
 use Rattle.defs.specs.declared.Answer.{Answer}
 use Rattle.roll.proofs.Parts.{first-top}
@@ -34,7 +36,7 @@ add-result : tie.Need-add-result
 add-result c = omega (arith, small c, number-small (answered c), c .before .number-in .ensures)
 
 returns : tie.Need-returns
-returns c = rw (c .before .number-in .ensures, c .before .before .roll-answer .ensures, c .first-size .ensures)
+returns c = omega (arith, c .before .number-in .ensures ∙ ap number (c .before .before .roll-answer .ensures), c .first-size .ensures)
 
 pub plq-roll-first-spec : {M : Type 1} → statement M
 plq-roll-first-spec =

@@ -39,7 +39,7 @@ module _ (c : tie.After-head-of) where
 -- where the loose bits and the points were looked at
 module _ (c : tie.After-twice-in) where
   abbrev opened : tie.After-head-of
-  opened = c .before .before .before .before
+  opened = c .before .before .before
 
   searched : Searched (bytes (told opened)) (head opened) (c .before .loose-bits .result) (c .twice-in .result)
   searched = record { fine = fine (told opened); heads = heads opened; loose-is = c .before .loose-bits .ensures; twice-is = c .twice-in .ensures }
@@ -51,11 +51,11 @@ module _ (c : tie.Else1) where
 
 module _ (c : tie.Else2) where
   abbrev clean : tie.Else1
-  clean = c .before .before
+  clean = c .before
 
 module _ (c : tie.Else3) where
   abbrev once : tie.Else2
-  once = c .before .before
+  once = c .before
 
 check-head-requires : tie.Need-check-head-requires
 check-head-requires c κs = search needs
@@ -81,17 +81,17 @@ mul-symbols c =
 
 add-loose-bits : tie.Need-add-loose-bits
 add-loose-bits c =
-    let h = c .before .before in
+    let h = c .before in
     omega (arith, row-size _ _ (heads h), slip (told h) .numbers .row-top, heads h .count-is, points-few _ (slip (told h)))
 
 loose-bits-requires : tie.Need-loose-bits-requires
 loose-bits-requires c κs =
-    let h = c .before .before in
+    let h = c .before in
     (fine (told h), heads h .m-is, omega (arith, heads h .count-is, row-size _ _ (heads h)))
 
 twice-in-requires : tie.Need-twice-in-requires
 twice-in-requires c κs =
-    let h = c .before .before .before in
+    let h = c .before .before in
     (fine (told h), heads h .m-is, heads h .count-is)
 
 returns-2 : tie.Need-returns-2
@@ -99,12 +99,12 @@ returns-2 c = read-loose _ _ _ _ _ _ (searched (c .before)) (c .if1 .taken)
 
 returns-3 : tie.Need-returns-3
 returns-3 c =
-    let e = c .before .before in
+    let e = c .before in
     read-twice _ _ _ _ _ _ (searched (looked e)) (e .if1 .left) (c .if2 .taken)
 
 returns-4 : tie.Need-returns-4
 returns-4 c =
-    let o = c .before .before in
+    let o = c .before in
     let e = clean o in
     read-points _ _ _ _ _ _ (searched (looked e)) (e .if1 .left) (o .if2 .left) (c .if3 .taken)
 

@@ -1,6 +1,6 @@
 -- `loose_bits` meets its contract: the spare bit is the last one of the third byte, the fill what is left of the last byte.
 use Prim.Native.Nat.{ℕ, _+_, _*_, _-_, _%_, _^_, _<_, _≤_}
-use mathlib.Core.Path.{_≡_, sym, ap, _∙_}
+use mathlib.Core.Path.{_≡_, ap, _∙_}
 use native.Mathlib.Nat.{one-mul, mod-le}
 use native.Mathlib.Omega.{arith}
 use lib.Dec.{lit<}
@@ -39,10 +39,14 @@ module _ (c : tie.Start) where
   power : 1 * 2 ^ left % 2 ^ 64 ≡ 2 ^ left
   power = shl-exact {a = 1} 1 left 64 (lit< tt) (omega (arith, few-left)) ∙ one-mul (2 ^ left)
 
--- where the last byte was read
+-- where the third byte was read, and where the last one was
+module _ (c : tie.After-wide) where
+  abbrev began : tie.Start
+  began = c .before .before .before
+
 module _ (c : tie.After-wide2) where
   abbrev begin : tie.Start
-  begin = c .before .before .before .before .before
+  begin = began (c .before .before)
 
 sub-last : tie.Need-sub-last
 sub-last c = omega (arith, slip (c .before) .long)

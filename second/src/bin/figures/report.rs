@@ -175,7 +175,7 @@ fn stack_table(page: &mut String) {
     let _ = write!(
         page,
         "\n## Stack\n\nBytes of stack for m 8, r 1, n 128, k 64, found by running each call on a stack filled with a\n\
-         pattern. A thread with a stack of 64 KiB has 65536; the call that takes most takes {deepest}.\n\n\
+         pattern, beyond those of a thread that does nothing: 0 is a call that takes no more than that. A thread with a stack of 64 KiB has 65536; the call that takes most takes {deepest}.\n\n\
          | call | bytes |\n|---|---|\n",
     );
     for (name, bytes) in uses {
