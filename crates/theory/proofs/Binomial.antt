@@ -1,7 +1,7 @@
 -- Binomials modulo 2: C(a, b) is odd exactly when every one bit of b is also a one bit of a. By halving, with the four cases that Pascal's rule gives.
 use Prim.Native.Nat.{ℕ, zero, suc, _+_, _*_, _/_, _%_, _^_, _<_, _≤_, max}
 use mathlib.Core.Path.{_≡_, refl, ap, ap₂, sym, _∙_}
-use native.Mathlib.Nat.{mul-one, mul-zero, zero-div, zero-lt-suc, div-div-eq-div-mul, pow-succ', mod-lt, div-add-mod'}
+use native.Mathlib.Nat.{mul-one, mul-zero, zero-div, div-div-eq-div-mul, pow-succ', mod-lt, div-add-mod'}
 use native.Nat.{ℕᴺ-discrete}
 use native.Mathlib.Decide.{decLt}
 use native.Mathlib.Omega.{arith}
@@ -9,11 +9,8 @@ use lib.Arith.{bin-ind}
 use lib.Bits.{bitOr, or-step, or-zero-r, or-shr, or-mod, or-add-and, and-le-r}
 use Rattle.defs.specs.Field.{binom}
 use Rattle.theory.specs.Bits.{Within}
-use Rattle.theory.proofs.Field.{bit}
+use Rattle.theory.proofs.Field.{two-pos, bit}
 use Rattle.theory.proofs.Formula.{binom-small}
-
-two-pos : 0 < 2
-two-pos = zero-lt-suc 1
 
 -- ---- halving
 
