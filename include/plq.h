@@ -14,8 +14,8 @@
  * damaged to depth r, one whose last alone is wrong to depth 1. The distance of two rows is the sum over the chunks.
  *
  * SLICES. Each slice is a pointer and, behind it, its length. Input slices are read only; slices that are not `const`
- * are buffers that the call may write. No pointer may be null, not even with length 0, and a buffer may not overlap
- * another slice of the same call. Reads and writes stay within the lengths given.
+ * are buffers that the call may write. A buffer may not overlap another slice of the same call. Reads and writes stay
+ * within the lengths given, so a slice of length 0 may have any pointer, also a null one.
  *
  * ANSWERS. Each call answers one word: in its low 8 bits a number, 0 if the call was done, else the reason why it was
  * refused (enum below), and above it a detail. A refused call changes no buffer. Where several reasons hold, the
@@ -58,14 +58,21 @@ enum plq_number {
     PLQ_SLIP_LONG = 12      /* the slip is longer than its own size */
 };
 
+/* A cast that is clean in either language; for the macros below alone. */
+#ifdef __cplusplus
+#define PLQ_CAST_(type, value) (static_cast<type>(value))
+#else
+#define PLQ_CAST_(type, value) ((type)(value))
+#endif
+
 /* The parts of an answer. PLQ_DETAIL is for every call but plq_slip_read, which packs its answer otherwise. */
-#define PLQ_NUMBER(answer) ((unsigned)((answer) & 0xFF))
-#define PLQ_DETAIL(answer) ((size_t)((answer) >> 8))
-#define PLQ_SLIP_M(answer) ((size_t)((answer) >> 8 & 0xFF))
-#define PLQ_SLIP_R(answer) ((size_t)((answer) >> 16 & 0xFF))
-#define PLQ_SLIP_COUNT(answer) ((size_t)((answer) >> 24 & 0xFF))
-#define PLQ_SLIP_K(answer) ((size_t)((answer) >> 32 & 0xFF))
-#define PLQ_SLIP_DETAIL(answer) ((size_t)((answer) >> 40 & 0xFF))
+#define PLQ_NUMBER(answer) PLQ_CAST_(unsigned, (answer) & 0xFF)
+#define PLQ_DETAIL(answer) PLQ_CAST_(size_t, (answer) >> 8)
+#define PLQ_SLIP_M(answer) PLQ_CAST_(size_t, (answer) >> 8 & 0xFF)
+#define PLQ_SLIP_R(answer) PLQ_CAST_(size_t, (answer) >> 16 & 0xFF)
+#define PLQ_SLIP_COUNT(answer) PLQ_CAST_(size_t, (answer) >> 24 & 0xFF)
+#define PLQ_SLIP_K(answer) PLQ_CAST_(size_t, (answer) >> 32 & 0xFF)
+#define PLQ_SLIP_DETAIL(answer) PLQ_CAST_(size_t, (answer) >> 40 & 0xFF)
 
 /* Writes the row of a message.
  *

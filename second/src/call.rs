@@ -34,25 +34,11 @@ impl Kind {
     }
 
     pub fn name(self) -> &'static str {
-        match self {
-            Kind::Encode => "encode",
-            Kind::Decode => "decode",
-            Kind::Distance => "distance",
-            Kind::SlipWrite => "slip_write",
-            Kind::SlipRead => "slip_read",
-            Kind::Line => "line",
-        }
+        self.about().0
     }
 
     pub fn shape(self) -> Shape {
-        let (numbers, inputs, buffers) = match self {
-            Kind::Encode => (3, 2, 1),
-            Kind::Decode => (3, 2, 2),
-            Kind::Distance => (1, 2, 0),
-            Kind::SlipWrite => (3, 2, 1),
-            Kind::SlipRead => (0, 1, 2),
-            Kind::Line => (0, 1, 1),
-        };
+        let (numbers, inputs, buffers) = self.about().1;
         Shape {
             numbers,
             inputs,
@@ -62,13 +48,18 @@ impl Kind {
 
     /// The numbers that the call can answer with.
     pub fn answers(self) -> &'static [u8] {
+        self.about().2
+    }
+
+    /// The call's name, its shape and its answers: one row for each call.
+    fn about(self) -> (&'static str, (usize, usize, usize), &'static [u8]) {
         match self {
-            Kind::Encode => &[0, 1, 2, 3, 4, 5, 6, 7, 8],
-            Kind::Decode => &[0, 1, 2, 3, 4, 5, 6, 7, 8, 9],
-            Kind::Distance => &[0, 2, 7],
-            Kind::SlipWrite => &[0, 1, 2, 3, 4, 5, 6, 7, 8],
-            Kind::SlipRead => &[0, 1, 3, 4, 6, 7, 10, 11, 12],
-            Kind::Line => &[0, 7],
+            Kind::Encode => ("encode", (3, 2, 1), &[0, 1, 2, 3, 4, 5, 6, 7, 8]),
+            Kind::Decode => ("decode", (3, 2, 2), &[0, 1, 2, 3, 4, 5, 6, 7, 8, 9]),
+            Kind::Distance => ("distance", (1, 2, 0), &[0, 2, 7]),
+            Kind::SlipWrite => ("slip_write", (3, 2, 1), &[0, 1, 2, 3, 4, 5, 6, 7, 8]),
+            Kind::SlipRead => ("slip_read", (0, 1, 2), &[0, 1, 3, 4, 6, 7, 10, 11, 12]),
+            Kind::Line => ("line", (0, 1, 1), &[0, 7]),
         }
     }
 }

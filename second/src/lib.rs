@@ -2,7 +2,7 @@
 //!
 //! - [`reference`](mod@reference) is written from the description of the codes alone, for trust and not for speed.
 //! - [`plain`] is the elimination decoder and the encoder that the figures are measured against.
-//! - [`call`], [`frame`], [`generate`] and [`worked`] make calls with all their inputs.
+//! - [`call`], [`frame`], [`generate`] and [`worked`] make calls with all their inputs, [`table`] a table of slips.
 //! - [`guard`] and `archive` run a call in the archive on buffers that end at a guard page.
 
 pub mod call;
@@ -12,7 +12,20 @@ pub mod guard;
 pub mod plain;
 pub mod random;
 pub mod reference;
+pub mod table;
 pub mod worked;
 
 #[cfg(archive)]
 pub mod archive;
+
+#[cfg(test)]
+mod tests {
+    use std::hint::black_box;
+
+    /// So that no product, sum or index here goes wrong unseen, in the gate too.
+    #[test]
+    #[should_panic(expected = "overflow")]
+    fn a_sum_that_wraps_stops_the_program() {
+        black_box(black_box(u8::MAX) + black_box(1));
+    }
+}

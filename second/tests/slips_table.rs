@@ -1,23 +1,31 @@
-//! The table of slips that the gate runs through the proved line has, for each slip, the line that this package computes.
+//! The lines of slips: the table that the gate runs through the proved line is the one that is drawn here, and what the
+//! reference says of a slip is held to two checks.
 //!
-//! The slips in `crates/slips_table/stdin` stand in this order: the rows worked by hand; each cut of the six-byte slip, two
-//! extensions, the spare bit and the fill set; every other edition, field code 3, each limit and one beyond it, repeated points,
-//! two faults at once; the longest line; then some 250 drawn at random once: damaged at the radius, damaged beyond it, changed,
-//! cut or extended, noise, and two long ones. The program that drew them also gave the lines, by elimination and, for small
-//! codes, by trying all messages; it shares nothing with this package, so the two check each other.
+//! - Elimination is a second method for the slips that the reader takes. It decodes what the reference's `unpack` read, so
+//!   it says nothing of the reading, and nothing of a slip that the reader refuses.
+//! - `independent-slips.bin` and `independent-lines.txt` are a second table, made once by a program that shares nothing with
+//!   `second`: it drew the slips and gave the lines, by elimination and, for small codes, by trying all messages. That
+//!   program is not kept, so the lines are never made anew. In this file they alone check how a slip is read and refused.
 
 use second::reference::line;
+use second::reference::slip::{unpack, Slip};
+use second::{plain, table};
 use std::fs;
 
-/// The numbers that a line can begin with: every refusal of the reader and the decoder.
-const NUMBERS: [&str; 9] = ["0", "1", "3", "4", "6", "9", "10", "11", "12"];
+const DRAWN: [&str; 2] = [
+    "../crates/slips_table/stdin",
+    "../crates/slips_table/stdout",
+];
+const INDEPENDENT: [&str; 2] = ["tests/independent-slips.bin", "tests/independent-lines.txt"];
 
-fn read(name: &str) -> Vec<u8> {
-    let path = format!(
-        "{}/../crates/slips_table/{name}",
-        env!("CARGO_MANIFEST_DIR")
-    );
-    fs::read(&path).unwrap_or_else(|error| panic!("{path}: {error}"))
+/// The slips and the lines of a table.
+fn stored(names: [&str; 2]) -> (Vec<u8>, String) {
+    let [slips, lines] = names.map(|name| {
+        let path = format!("{}/{name}", env!("CARGO_MANIFEST_DIR"));
+        fs::read(&path).unwrap_or_else(|error| panic!("{path}: {error}"))
+    });
+    let lines = String::from_utf8(lines).expect("lines are plain text");
+    (slips, lines)
 }
 
 /// The slips of the table, each behind its length in two bytes, the lower first.
@@ -33,22 +41,54 @@ fn slips(table: &[u8]) -> Vec<&[u8]> {
     slips
 }
 
-#[test]
-fn the_table_has_the_line_of_each_slip() {
-    let (table, lines) = (read("stdin"), read("stdout"));
-    let lines = String::from_utf8(lines).expect("lines are plain text");
-    let slips = slips(&table);
-    assert_eq!(slips.len(), lines.lines().count());
-    for (slip, expected) in slips.iter().zip(lines.split_inclusive('\n')) {
-        assert_eq!(line::text(slip), expected, "{slip:02x?}");
+/// The line of a slip that the reader takes, by elimination.
+fn line_by_elimination(slip: &Slip) -> String {
+    let (header, points) = (slip.header, &slip.points);
+    let (mut message, mut depths) = (vec![0; header.k], vec![0; header.count]);
+    let (m, r, k) = (header.m, header.r, header.k);
+    match plain::decode(m, r, k, points, &slip.row, &mut message, &mut depths) {
+        Ok(total) => {
+            let spaced = |numbers: &[u8]| numbers.iter().map(u8::to_string).collect::<Vec<_>>();
+            let (message, depths) = (spaced(&message).join(" "), spaced(&depths).join(" "));
+            format!("0 {total} | {message} | {depths}")
+        }
+        Err(refused) => format!("{} {}", refused.number, refused.place),
     }
 }
 
 #[test]
-fn the_table_meets_every_number_of_a_line() {
-    let lines = String::from_utf8(read("stdout")).expect("lines are plain text");
-    for number in NUMBERS {
-        let met = |line: &str| line.split(' ').next() == Some(number);
+fn the_stored_table_is_the_one_that_is_drawn() {
+    let drawn = table::draw();
+    let (slips, lines) = stored(DRAWN);
+    assert!(slips == drawn.slips, "draw it with `slips`");
+    assert!(lines == drawn.lines);
+}
+
+#[test]
+fn elimination_gives_the_lines_of_slips_that_are_read() {
+    let (table, lines) = stored(DRAWN);
+    let slips = slips(&table);
+    assert_eq!(slips.len(), lines.lines().count());
+    let mut decoded = 0;
+    for (slip, expected) in slips.iter().zip(lines.lines()) {
+        if let Ok(read) = unpack(slip) {
+            assert_eq!(line_by_elimination(&read), expected, "{slip:02x?}");
+            decoded += 1;
+        }
+    }
+    assert!(decoded > 100, "{decoded}");
+}
+
+#[test]
+fn the_reference_gives_the_independent_lines() {
+    let (table, lines) = stored(INDEPENDENT);
+    let slips = slips(&table);
+    assert_eq!((slips.len(), lines.lines().count()), (304, 304));
+    for (slip, expected) in slips.iter().zip(lines.split_inclusive('\n')) {
+        assert_eq!(line::text(slip), expected, "{slip:02x?}");
+    }
+    for number in line::NUMBERS {
+        let met = |line: &str| line::number(line.as_bytes()) == usize::from(number);
         assert!(lines.lines().any(met), "no line begins with {number}");
     }
 }

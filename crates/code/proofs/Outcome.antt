@@ -58,12 +58,12 @@ unfolding zeros
 length-zeros = refl
 
 length-padded : (points : List ℕ) → length points ≤ longest → length (padded points) ≡ longest
-unfolding padded
+unfolding padded front
 length-padded points h =
     length-append points (drop (length points) zeros) ∙ omega (arith, length-drop (length points) zeros, length-zeros)
 
 take-padded : (points : List ℕ) → take (length points) (padded points) ≡ points
-unfolding padded
+unfolding padded front
 take-padded points = take-append-seam points (drop (length points) zeros)
 
 -- c is the code of m, r, k and points, and it has passed the check

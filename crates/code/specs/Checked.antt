@@ -1,9 +1,10 @@
 -- The checked code, and what those who are passed one may rely on.
 use Prim.Native.Nat.{ℕ}
 use mathlib.Core.Path.{_≡_}
-use mathlib.Core.List.{List, [], _++_}
-use lib.ListN.{length, take, drop, replicate}
+use mathlib.Core.List.{List, []}
+use lib.ListN.{length, take, replicate}
 use Rattle.defs.specs.Limits.{longest, codeVerdict, Inside}
+use Rattle.defs.specs.Write.{front}
 use Rattle.defs.specs.declared.Refusal.{Refusal}
 use Rattle.defs.specs.declared.Verdict.{Verdict}
 use Rattle.defs.specs.declared.Verdict.the-variants.{Fine, Refused}
@@ -15,7 +16,7 @@ zeros = replicate longest 0
 
 -- the points, with zeros behind them
 unfoldable pub padded : List ℕ → List ℕ
-padded points = points ++ drop (length points) zeros
+padded points = front points zeros
 
 -- the code with its points inside it, or all zeros
 unfoldable pub codeFor : Verdict → ℕ → ℕ → ℕ → List ℕ → Code

@@ -1,2 +1,3 @@
--- What the check of a code hands over.
+-- What the check of a code hands over, and what a chunk is.
 pub mod Checked
+pub mod Chunk

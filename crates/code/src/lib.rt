@@ -1,9 +1,11 @@
 // The check of a code: refusals 1 to 6 in their order, and the code as one value with its points inside it.
 mod buffer;
+mod chunk;
 
 pub use buffer::copy;
+pub use chunk::chunk_of;
 ghost use mathlib.Core.Path.{_≡_};
-ghost use Prim.Native.Nat.{_^_, _≤_};
+ghost use Prim.Native.Nat.{_≤_};
 ghost use lib.ListN.{length};
 ghost use Rattle.defs.specs.Field.{Width};
 ghost use Rattle.defs.specs.Place.{firstHigh};
@@ -35,26 +37,12 @@ fn is_width(m: usize) -> bool
     m == 8
 }
 
-// How many elements the field has.
-pub fn field_size(m: usize) -> usize
-    requires { ⌜ Width m ⌝ }
-    ensures { λ s. ⌜ s ≡ 2 ^ m ⌝ }
-{
-    if m == 2 {
-        return 4;
-    }
-    if m == 4 {
-        return 16;
-    }
-    256
-}
-
 // The least index of a symbol outside the field, and the length where there is none.
 pub fn first_high(m: usize, s: &[u8]) -> usize
     requires { ⌜ Width m ⌝ }
     ensures { λ i. ⌜ i ≡ firstHigh m (now (s .entry)) ⌝ }
 {
-    let size = field_size(m);
+    let size = field::field_size(m);
     let mut i = 0;
     while i < s.len() {
         if size <= s[i] as usize {
@@ -110,7 +98,7 @@ pub fn check_numbers(m: usize, r: usize, k: usize, count: usize) -> Verdict
     if count == 0 {
         return Verdict::Refused(Refusal::Points);
     }
-    if field_size(m) < count {
+    if field::field_size(m) < count {
         return Verdict::Refused(Refusal::Points);
     }
     let n = r * count;
@@ -132,11 +120,7 @@ fn pad(points: &[u8]) -> [u8; LONGEST]
     ensures { λ a. ⌜ a ≡ padded (now (points .entry)) ⌝ }
 {
     let mut a = [0u8; LONGEST];
-    let mut i = 0;
-    while i < points.len() {
-        a[i] = points[i];
-        i += 1;
-    }
+    copy(points, &mut a);
     a
 }
 

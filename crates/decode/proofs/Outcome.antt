@@ -2,14 +2,14 @@
 use Prim.Native.Nat.{ℕ, _*_, _^_, _<_, _≤_}
 use mathlib.Core.Path.{_≡_, refl, ap, sym, _∙_}
 use mathlib.Core.List.{List, _++_, append-nil}
-use native.Mathlib.Nat.{mul-comm}
+use native.Mathlib.Nat.{mul-comm, mul-le-mul-right}
 use native.Mathlib.Decide.{decLt}
 use native.Mathlib.Omega.{arith}
 use lib.ListN.{length, getD, take, drop, length-take, length-drop, length-append, drop-of-length-le, List·getD-eq-default}
 use lib.Seq.{length-take-le, getD-take, take-at}
 use lib.Pow.{pow-pos}
 use borrow.Author.Tests.{eq-eqb, ne-eqb}
-use Rattle.defs.specs.Place.{Symbols}
+use Rattle.defs.specs.Place.{tab, Symbols}
 use Rattle.defs.specs.Distance.{damage, depths, distance, Near}
 use Rattle.defs.specs.Row.{Message, rowOf}
 use Rattle.defs.specs.Refusal.{refuse, andThen}
@@ -23,16 +23,19 @@ use Rattle.defs.specs.declared.Verdict.{Verdict}
 use Rattle.defs.specs.declared.Verdict.the-variants.{Fine, Refused}
 use Rattle.defs.specs.declared.Answer.the-variants.{Done, Refused as No}
 use Rattle.theory.specs.Fill.{filled}
-use Rattle.theory.proofs.Fill.{filled-whole}
+use Rattle.theory.proofs.Fill.{filled-front}
+use Rattle.theory.proofs.Place.{length-tab}
+use Rattle.theory.proofs.Distance.{length-depths}
 use Rattle.defs.specs.declared.Code.{Code}
-use Rattle.theory.specs.Limits.{Limits}
+use Rattle.theory.specs.Limits.{Numbers}
 use Rattle.theory.proofs.Limits.{inside-known, count-small}
 use Rattle.theory.proofs.Checks.{decode-known}
 use Rattle.theory.proofs.Row.{length-row}
+use Rattle.theory.proofs.Verdict.{apart}
 use Rattle.code.specs.Checked.{pointsOf}
 use Rattle.code.proofs.Outcome.{Passed}
+use Rattle.code.proofs.Known.{code-numbers}
 use Rattle.rows.specs.Chunk.{Rows, Writable}
-use Rattle.rows.proofs.Measure.{damage-le}
 use Rattle.pair.specs.Found.{IsRow}
 use Rattle.decode.specs.declared.Sought.{Sought}
 use Rattle.decode.specs.Search.{restVerdict, Candidate, Sent, IsSought, within, beyond, Measured}
@@ -56,37 +59,44 @@ module _ (m n k count : ℕ) (w : List ℕ) (size deep : ℕ) where
       unfolding restVerdict refuse
       rest-symbols e″ v h = rw (eq-eqb (length w) n e, eq-eqb size k e′, eq-eqb deep count e″) h
 
-pub damage-top : (r : ℕ) (u w : List ℕ) (i d : ℕ) → d ≡ damage r u w i → d ≤ r
-damage-top r u w i d e = omega (arith, damage-le r u w i)
-
 -- the end of the loop that writes the depths
-pub measured : (r : ℕ) (u w depth now : List ℕ) (i : ℕ) → i ≤ length depth → length depth ≤ i → now ≡ filled depth 0 (damage r u w) i
-    → (t : ℕ) → t ≡ distance r i u w → Measured r u w depth t now
-unfolding depths
-measured r u w depth now i h l e t f =
-    let q : i ≡ length depth = omega arith in
+pub measured : (r count : ℕ) (u w depth now : List ℕ) (i : ℕ) → i ≤ count → count ≤ i → now ≡ filled depth 0 (damage r u w) i
+    → (t : ℕ) → t ≡ distance r i u w → Measured r count u w depth t now
+unfolding depths front
+measured r count u w depth now i h l e t f =
+    let q : i ≡ count = omega arith in
+    let F : ℕ → ℕ = damage r u w in
     record {
-      each = e ∙ ap (filled depth 0 (damage r u w)) q ∙ filled-whole depth (damage r u w);
+      each = e ∙ ap (filled depth 0 F) q ∙ filled-front depth F count ∙ ap (λ (n : ℕ). tab F count ++ drop n depth) (sym (length-tab F count));
       all = f ∙ ap (λ (n : ℕ). distance r n u w) q;
     }
 
+pub message-top : {m r k count : ℕ} → Numbers m r k count → k ≤ longest
+message-top N = omega (arith, N .k-top, N .row-top)
+
+-- a row that stands at the front of an array, and another, both of n symbols: any of their first chunks
+pub rows-front : {m r k count : ℕ} → Numbers m r k count → (u w : List ℕ) (n : ℕ) → n ≡ r * count → length w ≡ n → length u ≡ longest
+    → (some : ℕ) → some ≤ count → Rows r some (take n u) w
+rows-front {m} {r} {k} {count} N u w n e f g some l =
+    let s : some * r ≤ n = omega (arith, mul-le-mul-right r l, mul-comm count r) in
+    record {
+      depth = N .r-top;
+      few = omega (arith, count-small N);
+      left = omega (arith, length-take-le n u (omega (arith, N .row-top)));
+      right = omega arith;
+    }
+
 -- what a candidate for a message says
-module _ (c : Code) (f : List ℕ) (n : ℕ) (x : Candidate c f n) where
-  limits : Limits (c .m) (c .r) (c .k) (pointsOf c)
-  limits = inside-known _ _ _ _ (x .code .inside)
-
+module _ {c : Code} {f : List ℕ} {n : ℕ} (x : Candidate c f n) where
   pub row-short : n ≤ longest
-  row-short = omega (arith, x .size, limits .numbers .row-top, ap (λ (i : ℕ). c .r * i) (x .code .counted))
+  row-short = omega (arith, x .size, code-numbers (x .code) .row-top)
 
-  pub message-short : c .k ≤ longest
-  message-short = omega (arith, limits .numbers .k-top, limits .numbers .row-top)
+  pub message-within : c .k ≤ length f
+  message-within = omega (arith, x .long, message-top (code-numbers (x .code)))
 
   pub front-message : Message (c .m) (c .k) (take (c .k) f)
   front-message =
-      record {
-        size = length-take-le (c .k) f (omega (arith, x .long, message-short));
-        symbols = λ i. take-symbol i (decLt i (c .k));
-      }
+      record { size = length-take-le (c .k) f message-within; symbols = λ i. take-symbol i (decLt i (c .k)) }
     where
       take-symbol : (i : ℕ) → Dec (i < c .k) → getD (take (c .k) f) i 0 < 2 ^ c .m
       take-symbol i (yes l) = rw (getD-take (c .k) f i 0 l) (x .symbols i)
@@ -126,69 +136,60 @@ module _ (m r k : ℕ) (points w message depth : List ℕ) where
         → Decoded m r k points w message depth (No x) message depth
     rest-refused x e = refused x (rest-is ∙ e) refl refl refl
 
-    module _ (fine : restVerdict m (r * length points) k (length points) w (length message) (length depth) ≡ Fine) where
-      facts : Inside m r k points × (length w ≡ r * length points) × (length message ≡ k) × (length depth ≡ length points) × Symbols m w
-      facts = decode-known m r k points w (length message) (length depth) (rest-is ∙ fine)
+-- the input has passed the checks, and c is its code
+pub record Admitted (m r k : ℕ) (points w message depth : List ℕ) (c : Code) : Type 0 where
+  pub inside : Inside m r k points
+  pub passed : Passed m r k points c
+  pub fine : restVerdict m (r * length points) k (length points) w (length message) (length depth) ≡ Fine
 
-      pub room : (length message ≡ k) × (length depth ≡ length points)
-      room = (facts .2, facts .3)
+module _ {m r k : ℕ} {points w message depth : List ℕ} {c : Code} (x : Admitted m r k points w message depth c) where
+  verdict : decodeVerdict m r k points w (length message) (length depth) ≡ Fine
+  verdict = rest-is m r k points w message depth (x .inside) ∙ x .fine
 
-      limits-in : Limits m r k points
-      limits-in = inside-known m r k points v
+  facts : Inside m r k points × (length w ≡ r * length points) × (length message ≡ k) × (length depth ≡ length points) × Symbols m w
+  facts = decode-known m r k points w (length message) (length depth) verdict
 
-      message-short-in : k ≤ longest
-      message-short-in = omega (arith, limits-in .numbers .k-top, limits-in .numbers .row-top)
+  numbers : Numbers m r k (length points)
+  numbers = inside-known m r k points (x .inside) .numbers
 
-      pub is-row : (c : Code) → Passed m r k points c → IsRow c w
-      is-row c p =
-          record {
-            size = rw (p .r-is, ← p .is-code .counted, p .points-are) (facts .1);
-            symbols = rw (p .m-is) (facts .4);
-          }
+  pub room : (length message ≡ k) × (length depth ≡ length points)
+  room = (facts .2, facts .3)
 
-      module _ (c : Code) (p : Passed m r k points c) (s : Sought) where
-        near-is : (f : List ℕ) → Near (c .m) (c .r) (c .k) (pointsOf c) w f → Near m r k points w f
-        near-is f near = rw (p .m-is, p .r-is, p .k-is, p .points-are) at near
+  pub is-row : IsRow c w
+  is-row = record {
+    size = rw (x .passed .r-is, ← x .passed .is-code .counted, x .passed .points-are) (facts .1);
+    symbols = rw (x .passed .m-is) (facts .4);
+  }
 
-        near-back : (f : List ℕ) → Near m r k points w f → Near (c .m) (c .r) (c .k) (pointsOf c) w f
-        near-back f near = rw (p .m-is, p .r-is, p .k-is, p .points-are) near
+  pub rows-measured : (some : ℕ) → some ≤ length points → (u : List ℕ) → length u ≡ longest → Rows r some (take (r * length points) u) w
+  rows-measured some l u e = rows-front numbers u w (r * length points) refl (facts .1) e some l
 
-        -- the message, and both rows, are as long as they must be
-        pub long-message : s .verdict ≡ Fine → IsSought c w s → k ≤ length (s .message)
-        long-message e (within e′ long sent near) =
-            omega (arith, long, message-short-in)
-        long-message e (beyond e′ far) = absurd (let z : _≡_ {A = ℕ} 0 1 = cc in omega arith)
+  near-is : (f : List ℕ) → Near (c .m) (c .r) (c .k) (pointsOf c) w f → Near m r k points w f
+  near-is f near = rw (x .passed .m-is, x .passed .r-is, x .passed .k-is, x .passed .points-are) at near
 
-        pub long-row : s .verdict ≡ Fine → IsSought c w s → r * length points ≤ length (s .row)
-        long-row e (within e′ long sent near) = omega (arith, sent .long, limits-in .numbers .row-top)
-        long-row e (beyond e′ far) = absurd (let z : _≡_ {A = ℕ} 0 1 = cc in omega arith)
+  near-back : (f : List ℕ) → Near m r k points w f → Near (c .m) (c .r) (c .k) (pointsOf c) w f
+  near-back f near = rw (x .passed .m-is, x .passed .r-is, x .passed .k-is, x .passed .points-are) near
 
-        pub rows-measured : s .verdict ≡ Fine → IsSought c w s → Rows r (length depth) (take (r * length points) (s .row)) w
-        rows-measured e x =
-            let count : length depth * r ≡ r * length points = mul-comm (length depth) r ∙ ap (λ (i : ℕ). r * i) (facts .3) in
-            record {
-              depth = limits-in .numbers .r-top;
-              few = omega (arith, count-small (limits-in .numbers), facts .3);
-              left = omega (arith, length-take-le (r * length points) (s .row) (long-row e x));
-              right = omega (arith, facts .1);
-            }
+  pub nothing-near : {s : Sought} → IsSought c w s → (y : Refusal) → s .verdict ≡ Refused y → Decoded m r k points w message depth (No y) message depth
+  nothing-near (within e′ l sent near) y e = absurd (apart cc)
+  nothing-near (beyond e′ far) y e = none verdict (λ f near. far f (near-back f near)) (let h : y ≡ TooFar = cc in ap No h) refl refl
 
-        pub nothing-near : (x : Refusal) → s .verdict ≡ Refused x → IsSought c w s → Decoded m r k points w message depth (No x) message depth
-        nothing-near x e (within e′ l sent near) = absurd (let z : _≡_ {A = ℕ} 0 1 = cc in omega arith)
-        nothing-near x e (beyond e′ far) =
-            none (rest-is ∙ fine) (λ f near. far f (near-back f near)) (let h : x ≡ TooFar = cc in ap No h) refl refl
+  pub decoded : {s : Sought} → IsSought c w s → s .verdict ≡ Fine → (message′ : List ℕ) → message′ ≡ front (take k (s .message)) message
+      → (t : ℕ) (depth′ : List ℕ) → Measured r (length points) (take (r * length points) (s .row)) w depth t depth′
+      → Decoded m r k points w message depth (Done t) message′ depth′
+  decoded (beyond e′ far) e message′ h t depth′ d = absurd (apart cc)
+  decoded {s} (within e′ long sent near) e message′ h t depth′ d =
+      let f : List ℕ = take k (s .message) in
+      let same : take (c .k) (s .message) ≡ f = ap (λ (i : ℕ). take i (s .message)) (x .passed .k-is) in
+      let near′ : Near m r k points w f = rw same at (near-is _ near) in
+      let row : take (r * length points) (s .row) ≡ rowOf m r points f =
+      ap (λ (i : ℕ). take i (s .row)) (sym (facts .1)) ∙ (rw (x .passed .m-is, x .passed .r-is, x .passed .k-is, x .passed .points-are) at (sent .row)) in
+      found f verdict near′
+      (ap Done (d .all ∙ rw row))
+      (h ∙ front-whole f message (near′ .message .size ∙ sym (facts .2)))
+      (d .each ∙ front-whole _ depth (length-depths r (length points) _ w ∙ sym (facts .3)) ∙ rw row)
 
-        pub decoded : s .verdict ≡ Fine → IsSought c w s → (message′ : List ℕ) → message′ ≡ front (take k (s .message)) message
-            → (t : ℕ) (depth′ : List ℕ) → Measured r (take (r * length points) (s .row)) w depth t depth′
-            → Decoded m r k points w message depth (Done t) message′ depth′
-        decoded e (beyond e′ far) message′ h t depth′ x = absurd (let z : _≡_ {A = ℕ} 0 1 = cc in omega arith)
-        decoded e (within e′ long sent near) message′ h t depth′ x =
-            let f : List ℕ = take k (s .message) in
-            let same : take (c .k) (s .message) ≡ f = ap (λ (i : ℕ). take i (s .message)) (p .k-is) in
-            let near′ : Near m r k points w f = rw same at (near-is _ near) in
-            let row : take (r * length points) (s .row) ≡ rowOf m r points f =
-            ap (λ (i : ℕ). take i (s .row)) (sym (facts .1)) ∙ (rw (p .m-is, p .r-is, p .k-is, p .points-are) at (sent .row)) in
-            found f (rest-is ∙ fine) near′
-            (ap Done (x .all ∙ rw (facts .3, row)))
-            (h ∙ front-whole f message (near′ .message .size ∙ sym (facts .2)))
-            (x .each ∙ rw (facts .3, row))
+-- what is found comes in two whole arrays
+pub whole : {c : Code} {w : List ℕ} {s : Sought} → IsSought c w s → s .verdict ≡ Fine → (length (s .message) ≡ longest) × (length (s .row) ≡ longest)
+whole (within e′ long sent near) e = (long, sent .long)
+whole (beyond e′ far) e = absurd (apart cc)

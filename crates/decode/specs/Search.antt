@@ -11,6 +11,7 @@ use Rattle.defs.specs.Distance.{depths, distance, Near}
 use Rattle.defs.specs.Refusal.{refuse}
 use Rattle.defs.specs.Limits.{longest}
 use Rattle.defs.specs.Encode.{symbolsVerdict}
+use Rattle.defs.specs.Write.{front}
 use Rattle.defs.specs.declared.Refusal.the-variants.{Length, TooFar}
 use Rattle.defs.specs.declared.Verdict.{Verdict}
 use Rattle.defs.specs.declared.Verdict.the-variants.{Fine, Refused}
@@ -44,7 +45,7 @@ pub data IsSought (c : Code) (w : List ℕ) (s : Sought) : Type 0 where
       → Near (c .m) (c .r) (c .k) (pointsOf c) w (take (c .k) (s .message)) → IsSought c w s
   beyond : s .verdict ≡ Refused TooFar → ((f : List ℕ) → Near (c .m) (c .r) (c .k) (pointsOf c) w f → ⊥) → IsSought c w s
 
--- the depths of damage, and their sum
-pub record Measured (r : ℕ) (u w depth : List ℕ) (t : ℕ) (depth′ : List ℕ) : Type 0 where
-  pub each : depth′ ≡ depths r (length depth) u w
-  pub all : t ≡ distance r (length depth) u w
+-- the depths of damage in count chunks, at the front of a buffer, and their sum
+pub record Measured (r count : ℕ) (u w depth : List ℕ) (t : ℕ) (depth′ : List ℕ) : Type 0 where
+  pub each : depth′ ≡ front (depths r count u w) depth
+  pub all : t ≡ distance r count u w

@@ -1,5 +1,6 @@
 // Decode: what the quotient of a pair is gets measured against the row; and the call.
 ghost use mathlib.Core.Path.{_≡_};
+ghost use Prim.Native.Nat.{_≤_};
 ghost use lib.ListN.{length};
 ghost use Rattle.defs.specs.Field.{Width};
 ghost use Rattle.defs.specs.Decode.{Decoded};
@@ -31,15 +32,13 @@ pub struct Sought {
     pub row: [u8; LONGEST],
 }
 
-fn nothing(v: Verdict) -> Sought
+fn nothing(v: Verdict, blank: [u8; LONGEST]) -> Sought
     ensures { λ s. ⌜ s .verdict ≡ v ⌝ }
 {
-    let message = [0u8; LONGEST];
-    let row = [0u8; LONGEST];
     Sought {
         verdict: v,
-        message,
-        row,
+        message: blank,
+        row: blank,
     }
 }
 
@@ -49,13 +48,14 @@ fn seek(code: Code, row: &[u8]) -> Sought
     requires { ⌜ IsRow code (now row) ⌝ }
     ensures { λ s. ⌜ IsSought code (now (row .entry)) s ⌝ }
 {
+    let blank = [0u8; LONGEST];
     let n = row.len();
     let k = code.k;
     let reach = pair::radius(n, k);
     let paired = pair::find_pair(code, row);
     let v = paired.verdict;
     if let Verdict::Refused(_) = v {
-        return nothing(Verdict::Refused(Refusal::TooFar)); // no pair exists
+        return nothing(Verdict::Refused(Refusal::TooFar), blank); // no pair exists
     }
     let q0 = paired.q0;
     let q1 = paired.q1;
@@ -65,7 +65,7 @@ fn seek(code: Code, row: &[u8]) -> Sought
     let sent = row_of(code, message, n);
     let d = rows::row_distance(code.r, code.count, &sent[..n], row);
     if reach < d {
-        return nothing(Verdict::Refused(Refusal::TooFar));
+        return nothing(Verdict::Refused(Refusal::TooFar), blank);
     }
     Sought {
         verdict: Verdict::Fine,
@@ -74,14 +74,14 @@ fn seek(code: Code, row: &[u8]) -> Sought
     }
 }
 
-// Writes the depth of damage in each chunk, and answers their sum.
-fn write_depths(r: usize, sent: &[u8], row: &[u8], depths: &mut [u8]) -> usize
-    requires { ⌜ Rows r (length (now depths)) (now sent) (now row) ⌝ }
-    ensures { λ t. ⌜ Measured r (now (sent .entry)) (now (row .entry)) (now (depths .entry)) t (now (depths .exit)) ⌝ }
+// Writes the depths of damage in count chunks, and answers their sum.
+fn write_depths(r: usize, count: usize, sent: &[u8], row: &[u8], depths: &mut [u8]) -> usize
+    requires { ⌜ Rows r count (now sent) (now row) × (count ≤ length (now depths)) ⌝ }
+    ensures { λ t. ⌜ Measured r count (now (sent .entry)) (now (row .entry)) (now (depths .entry)) t (now (depths .exit)) ⌝ }
 {
     let mut total = 0;
     let mut i = 0;
-    while i < depths.len() {
+    while i < count {
         let d = rows::chunk_damage(r, sent, row, i);
         depths[i] = d as u8;
         total += d;
@@ -132,8 +132,9 @@ pub fn decode(
     if let Verdict::Refused(x) = v {
         return Answer::Refused(x);
     }
-    let n = r * points.len();
-    let rest = check_rest(m, n, k, points.len(), row, message.len(), depths.len());
+    let count = points.len();
+    let n = r * count;
+    let rest = check_rest(m, n, k, count, row, message.len(), depths.len());
     if let Verdict::Refused(x) = rest {
         return Answer::Refused(x);
     }
@@ -146,5 +147,5 @@ pub fn decode(
     let found = sought.message;
     let sent = sought.row;
     code::copy(&found[..k], message);
-    Answer::Done(write_depths(r, &sent[..n], row, depths))
+    Answer::Done(write_depths(r, count, &sent[..n], row, depths))
 }

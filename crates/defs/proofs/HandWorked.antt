@@ -5,7 +5,7 @@ use mathlib.Core.Bool.{Bool, true, false, not}
 use mathlib.Core.List.{List, [], _∷_}
 use native.Mathlib.Omega.{arith}
 use lib.Dec.{T, eqb, ltb, leb, eqb→eq, ltb→lt, leb→le, le→leb, T-not}
-use lib.ListN.{length}
+use lib.ListN.{length, getD}
 use lib.Pow.{pow-pos}
 use Rattle.defs.specs.Field.{add, modulus, times2, mulBits, mul, pow, binom}
 use Rattle.defs.specs.Place.{least, tab, total, Symbols, firstHigh}
@@ -20,7 +20,7 @@ use Rattle.defs.specs.declared.Refusal.the-variants.{TooFar}
 use Rattle.defs.specs.declared.Verdict.{Verdict}
 use Rattle.defs.specs.declared.Verdict.the-variants.{Fine, Refused}
 use Rattle.defs.specs.declared.Answer.the-variants.{Done, Refused as No}
-use Rattle.defs.proofs.Search.{both, either, both-left, both-right, either-other, all, all-make, every, every-at, any, some, some-found, below, below-at, same, same-eq}
+use Rattle.defs.proofs.Search.{both, either, both-left, both-right, either-other, all, all-at, all-make, every, every-at, any, some, some-found, below, below-at, same, same-eq}
 
 -- what a line says
 pub data Case : Type 0 where
@@ -32,11 +32,12 @@ pub data Case : Type 0 where
   nearest : (m r k : ℕ) (points w f : List ℕ) (d : ℕ) → Case
   reaches : (n k t : ℕ) → Case
   acceptsAll : (m r k : ℕ) (points : List ℕ) → Case
+  aPair : (m r k : ℕ) (points w Q₀ Q₁ : List ℕ) → Case
   noPair : (m r k : ℕ) (points w : List ℕ) → Case
   apart : (r : ℕ) (u w : List ℕ) (d : ℕ) → Case
 
 -- a product, or two numbers that are inverse to each other; what the contracts of encode, decode and distance allow, whatever the
--- buffers held; the only message at the least distance; the radius; every row is accepted; no pair exists
+-- buffers held; the only message at the least distance; the radius; every row is accepted; a pair; no pair exists
 abbrev pub Holds : Case → Type 0
 Holds (product m a b c) = mul m a b ≡ c
 Holds (encodes m r k points f row) = (buffer : List ℕ) → length buffer ≡ length row → Encoded m r k points f buffer (Done 0) row
@@ -52,6 +53,7 @@ Holds (nearest m r k points w f d) =
     × ((g : List ℕ) → Message m k g → (g ≡ f → ⊥) → d < distance r (length points) (rowOf m r points g) w)
 Holds (reaches n k t) = radius n k ≡ t
 Holds (acceptsAll m r k points) = (w : List ℕ) → length w ≡ r * length points → Symbols m w → (f : List ℕ) × Near m r k points w f
+Holds (aPair m r k points w Q₀ Q₁) = IsPair m r k points w Q₀ Q₁
 Holds (noPair m r k points w) = (Q₀ Q₁ : List ℕ) → IsPair m r k points w Q₀ Q₁ → ⊥
 Holds (apart r u w d) = distanceAnswer r u w ≡ Done d
 
@@ -79,6 +81,7 @@ table =
     ∷ decodes 2 2 4 (0 ∷ 1 ∷ 2 ∷ 3 ∷ []) (1 ∷ 0 ∷ 0 ∷ 1 ∷ 0 ∷ 0 ∷ 0 ∷ 0 ∷ []) (1 ∷ 0 ∷ 0 ∷ 1 ∷ []) 2 (0 ∷ 0 ∷ 1 ∷ 1 ∷ [])
     -- P6
     ∷ refuses 2 2 4 (0 ∷ 1 ∷ 2 ∷ 3 ∷ []) (1 ∷ 0 ∷ 0 ∷ 2 ∷ 0 ∷ 0 ∷ 0 ∷ 0 ∷ [])
+    ∷ aPair 2 2 4 (0 ∷ 1 ∷ 2 ∷ 3 ∷ []) (1 ∷ 0 ∷ 0 ∷ 2 ∷ 0 ∷ 0 ∷ 0 ∷ 0 ∷ []) (1 ∷ 1 ∷ 1 ∷ 1 ∷ 1 ∷ 1 ∷ []) (1 ∷ 1 ∷ 3 ∷ [])
     -- P7
     ∷ decodesTo 2 3 1 (0 ∷ []) (2 ∷ 0 ∷ 1 ∷ []) (2 ∷ []) 1
     -- P8
@@ -136,6 +139,10 @@ test (nearest m r k points w f d) =
     both (eqb (apartness m r points w f) d) (every (2 ^ m) k (λ g. either (same g f) (ltb d (apartness m r points w g))))
 test (reaches n k t) = eqb (radius n k) t
 test (acceptsAll m r k points) = every (2 ^ m) (r * length points) (λ w. some (2 ^ m) k (isNear m r k points w))
+test (aPair m r k points w Q₀ Q₁) =
+    both (eqb (length Q₀) ((r * length points + k) / 2))
+    (both (eqb (length Q₁) (suc (reach r k points)))
+    (both (below (2 ^ m) Q₀) (both (below (2 ^ m) Q₁) (both (not (eqb (getD Q₀ 0 0) 0)) (vanishing m r points w Q₀ Q₁)))))
 test (noPair m r k points w) =
     every (2 ^ m) ((r * length points + k) / 2)
     (λ Q₀. every (2 ^ m) (suc (reach r k points))
@@ -157,6 +164,11 @@ unfolding vanishing
 vanished m r points w Q₀ Q₁ z =
     all-make (length points) (λ i. all r (λ j. eqb (mixed m r points w Q₀ Q₁ i j) 0))
     (λ i l. all-make r (λ j. eqb (mixed m r points w Q₀ Q₁ i j) 0) (λ j l′. subst (λ (x : ℕ). T (eqb x 0)) (sym (z i l j l′)) tt))
+
+vanishes-at : (m r : ℕ) (points w Q₀ Q₁ : List ℕ) → T (vanishing m r points w Q₀ Q₁)
+    → (i : ℕ) → i < length points → (j : ℕ) → j < r → mixed m r points w Q₀ Q₁ i j ≡ 0
+unfolding vanishing
+vanishes-at m r points w Q₀ Q₁ t i l j l′ = eqb→eq _ _ (all-at r _ (all-at (length points) _ t i l) j l′)
 
 accept : (m r k : ℕ) (points w f : List ℕ) (d : ℕ) → T (accepted m r k points w f d)
     → (message deep : List ℕ) → length message ≡ k → length deep ≡ length points
@@ -196,6 +208,19 @@ sound (reaches n k t) u = eqb→eq _ _ u
 sound (acceptsAll m r k points) t = λ w e s.
     let x = some-found (2 ^ m) k _ (pow-pos m) (every-at (2 ^ m) (r * length points) _ t w e s) in
     (x .0, record { message = record { size = x .1; symbols = x .2 }; within = leb→le _ _ (x .3) })
+sound (aPair m r k points w Q₀ Q₁) t =
+    let t₁ = both-right (eqb (length Q₀) ((r * length points + k) / 2)) _ t in
+    let t₂ = both-right (eqb (length Q₁) (suc (reach r k points))) _ t₁ in
+    let t₃ = both-right (below (2 ^ m) Q₀) _ t₂ in
+    let t₄ = both-right (below (2 ^ m) Q₁) _ t₃ in
+    record {
+      size₀ = eqb→eq _ _ (both-left _ _ t);
+      size₁ = eqb→eq _ _ (both-left _ _ t₁);
+      symbols₀ = below-at (2 ^ m) Q₀ (pow-pos m) (both-left _ _ t₂);
+      symbols₁ = below-at (2 ^ m) Q₁ (pow-pos m) (both-left _ _ t₃);
+      nonzero = λ z₀ z₁. T-not (eqb (getD Q₀ 0 0) 0) (both-left _ _ t₄) (subst (λ (x : ℕ). T (eqb x 0)) (sym (z₀ 0)) tt);
+      vanishes = vanishes-at m r points w Q₀ Q₁ (both-right (not (eqb (getD Q₀ 0 0) 0)) _ t₄);
+    }
 sound (noPair m r k points w) t = λ Q₀ Q₁ p.
     let u = every-at (2 ^ m) (suc (reach r k points)) _
     (every-at (2 ^ m) ((r * length points + k) / 2) _ t Q₀ (p .size₀) (p .symbols₀)) Q₁ (p .size₁) (p .symbols₁) in

@@ -5,15 +5,14 @@ use mathlib.Core.Bool.{cond}
 use mathlib.Core.List.{List, [], _∷_, _++_}
 use lib.Dec.{ltb}
 use lib.ListN.{length}
-use Rattle.defs.specs.Row.{rowOf}
-use Rattle.defs.specs.Distance.{depths, distance, Near}
 use Rattle.defs.specs.Refusal.{number, detail, refuse, answer, kept}
 use Rattle.defs.specs.Limits.{longest}
+use Rattle.defs.specs.Decode.{Decoded}
 use Rattle.defs.specs.Slip.{widthIn, depthIn, dimensionIn, pointsIn, rowIn}
 use Rattle.defs.specs.Write.{front}
 use Rattle.defs.specs.Read.{readVerdict}
 use Rattle.defs.specs.declared.Refusal.{Refusal}
-use Rattle.defs.specs.declared.Refusal.the-variants.{Length, TooFar}
+use Rattle.defs.specs.declared.Refusal.the-variants.{Length}
 use Rattle.defs.specs.declared.Verdict.{Verdict}
 use Rattle.defs.specs.declared.Verdict.the-variants.{Fine, Refused}
 use Rattle.defs.specs.declared.Answer.{Answer}
@@ -41,22 +40,19 @@ heading a = decimal (number a) ++ (32 ∷ decimal (detail a))
 unfoldable pub listed : List ℕ → List ℕ
 listed s = 32 ∷ 124 ∷ spaced s
 
-unfoldable pub refusedLine : Refusal → List ℕ
-refusedLine x = heading (No x) ++ (10 ∷ [])
+-- the line of what decode answers, where it gave this message and these depths
+unfoldable pub lineOf : Answer → List ℕ → List ℕ → List ℕ
+lineOf (Done d) message depth = heading (Done d) ++ (listed message ++ (listed depth ++ (10 ∷ [])))
+lineOf (No x) message depth = heading (No x) ++ (10 ∷ [])
 
-unfoldable pub doneLine : ℕ → List ℕ → List ℕ → List ℕ
-doneLine d message depth = heading (Done d) ++ (listed message ++ (listed depth ++ (10 ∷ [])))
-
--- the line of a row: f is found, or no message is near
+-- the line of a row: that of its decoding, into any buffers of the right lengths
 pub data RowLine (m r k : ℕ) (points w text : List ℕ) : Type 0 where
-  found : (f : List ℕ) → Near m r k points w f
-      → text ≡ doneLine (distance r (length points) (rowOf m r points f) w) f (depths r (length points) (rowOf m r points f) w)
-      → RowLine m r k points w text
-  none : ((f : List ℕ) → Near m r k points w f → ⊥) → text ≡ refusedLine TooFar → RowLine m r k points w text
+  decoded : (message depth message′ depth′ : List ℕ) (a : Answer) → length message ≡ k → length depth ≡ length points
+      → Decoded m r k points w message depth a message′ depth′ → text ≡ lineOf a message′ depth′ → RowLine m r k points w text
 
 -- the line of some bytes: they are refused as a slip, or the row that stands in them is decoded
 pub data Line (bytes text : List ℕ) : Type 0 where
-  refused : (x : Refusal) → readVerdict bytes longest longest ≡ Refused x → text ≡ refusedLine x → Line bytes text
+  refused : (x : Refusal) → readVerdict bytes longest longest ≡ Refused x → text ≡ lineOf (No x) [] [] → Line bytes text
   read : readVerdict bytes longest longest ≡ Fine
       → RowLine (widthIn bytes) (depthIn bytes) (dimensionIn bytes) (pointsIn bytes) (rowIn bytes) text → Line bytes text
 

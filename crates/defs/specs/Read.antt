@@ -26,15 +26,14 @@ headVerdict bytes =
 
 -- then 6, 7; the two numbers are the lengths of the point buffer and of the row buffer
 unfoldable pub readVerdict : List ℕ → ℕ → ℕ → Verdict
-readVerdict bytes count n =
-    andThen (headVerdict bytes)
+readVerdict bytes count n = andThen (headVerdict bytes)
     (refuse (ltb (firstTwice (pointsIn bytes)) (countIn bytes)) (PointTwice (firstTwice (pointsIn bytes)))
     (refuse (ltb count (countIn bytes) || ltb n (depthIn bytes * countIn bytes)) Length Fine))
 
 -- done, with the code's numbers, or refused, with 0 for each
 unfoldable pub reading : Verdict → List ℕ → SlipRead
-reading Fine bytes = record { answer = Done 0; m = widthIn bytes; r = depthIn bytes; count = countIn bytes; k = dimensionIn bytes }
-reading (Refused x) bytes = record { answer = No x; m = 0; r = 0; count = 0; k = 0 }
+reading Fine s = record { answer = Done 0; m = widthIn s; r = depthIn s; count = countIn s; k = dimensionIn s }
+reading (Refused x) s = record { answer = No x; m = 0; r = 0; count = 0; k = 0 }
 
 pub record Read (bytes points row : List ℕ) (s : SlipRead) (points′ row′ : List ℕ) : Type 0 where
   pub answers : s ≡ reading (readVerdict bytes (length points) (length row)) bytes

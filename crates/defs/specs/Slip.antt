@@ -1,8 +1,10 @@
 -- Slips, edition 1: bit-packed, the most significant bit first.
 use Prim.Native.Nat.{ℕ, zero, suc, _+_, _*_, _-_, _/_, _%_, _^_}
 use mathlib.Core.List.{List, [], _∷_, _++_}
+use lib.Dec.{eqb}
 use lib.ListN.{length, getD}
-use Rattle.defs.specs.Place.{tab}
+use Rattle.defs.specs.Place.{least, tab}
+use Rattle.defs.specs.Limits.{longest}
 
 -- the w low bits of x
 unfoldable pub bits : ℕ → ℕ → List ℕ
@@ -19,17 +21,26 @@ unfoldable pub numberAt : ℕ → ℕ → List ℕ → ℕ
 numberAt zero p s = 0
 numberAt (suc w) p s = getD s p 0 * 2 ^ w + numberAt w (suc p) s
 
--- edition, field (0, 1, 2 for m of 2, 4, 8), r - 1, n' - 1, k - 1 and the spare bit: 24 bits
-unfoldable pub headerBits : ℕ → ℕ → ℕ → ℕ → List ℕ
-headerBits m r k count = bits 4 1 ++ (bits 2 (m / 4) ++ (bits 3 (r - 1) ++ (bits 7 (count - 1) ++ (bits 7 (k - 1) ++ bits 1 0))))
+-- the fields 0, 1, 2 have m of 2, 4, 8; there is no field 3, and 0 is no width
+unfoldable pub widthOf : ℕ → ℕ
+widthOf field = getD (2 ∷ 4 ∷ 8 ∷ []) field 0
+
+-- the field with this m, and 3 where there is none
+unfoldable pub fieldCode : ℕ → ℕ
+fieldCode m = least (λ field. eqb (widthOf field) m) 3
+
+-- edition, field, r - 1, n' - 1, k - 1 and the spare bit, 24 bits in all; then the points and the row
+unfoldable pub slipBits : ℕ → ℕ → ℕ → List ℕ → List ℕ → List ℕ
+slipBits m r k points w = bits 4 1 ++ (bits 2 (fieldCode m) ++ (bits 3 (r - 1) ++ (bits 7 (length points - 1)
+    ++ (bits 7 (k - 1) ++ (bits 1 0 ++ allBits m (points ++ w))))))
 
 -- the bytes of a slip with so many points and symbols in all
 unfoldable pub slipSize : ℕ → ℕ → ℕ
 slipSize m symbols = 3 + (symbols * m + 7) / 8
 
--- header, points and row in bits
-unfoldable pub slipBits : ℕ → ℕ → ℕ → List ℕ → List ℕ → List ℕ
-slipBits m r k points w = headerBits m r k (length points) ++ allBits m (points ++ w)
+-- and of the longest one
+abbrev pub longestSlip : ℕ
+longestSlip = slipSize 8 (2 * longest)
 
 -- the slip: eight of these bits to a byte, 0 behind them
 unfoldable pub slipOf : ℕ → ℕ → ℕ → List ℕ → List ℕ → List ℕ
@@ -40,7 +51,7 @@ unfoldable pub editionIn : List ℕ → ℕ
 editionIn bytes = numberAt 4 0 (allBits 8 bytes)
 
 unfoldable pub widthIn : List ℕ → ℕ
-widthIn bytes = 2 ^ (numberAt 2 4 (allBits 8 bytes) + 1)
+widthIn bytes = widthOf (numberAt 2 4 (allBits 8 bytes))
 
 unfoldable pub depthIn : List ℕ → ℕ
 depthIn bytes = numberAt 3 6 (allBits 8 bytes) + 1

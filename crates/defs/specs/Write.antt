@@ -19,11 +19,9 @@ front new old = new ++ drop (length new) old
 
 -- 1 to 6, 7 for the row and then for the bytes, 8; size is the length of the byte buffer
 unfoldable pub writeVerdict : ℕ → ℕ → ℕ → List ℕ → List ℕ → ℕ → Verdict
-writeVerdict m r k points w size =
-    andThen (codeVerdict m r k points)
+writeVerdict m r k points w size = andThen (codeVerdict m r k points)
     (refuse (not (eqb (length w) (r * length points))) Length
-    (refuse (ltb size (slipSize m (length points + length w))) Length
-    (symbolsVerdict m w)))
+    (refuse (ltb size (slipSize m (length points + length w))) Length (symbolsVerdict m w)))
 
 pub record Written (m r k : ℕ) (points w bytes : List ℕ) (a : Answer) (bytes′ : List ℕ) : Type 0 where
   pub answers : a ≡ answer (writeVerdict m r k points w (length bytes)) (slipSize m (length points + length w))

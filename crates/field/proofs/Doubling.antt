@@ -1,10 +1,10 @@
 -- The row of products of a scalar, by doubling the part that is filled.
 use mathlib.Core.Path.{_≡_, refl, sym, ap, ap₂, _∙_, subst}
 use mathlib.Core.List.{List}
+use mathlib.Core.Logic.{⊎-elim}
 use Prim.Native.Nat.{ℕ, suc, _+_, _*_, _-_, _^_, _<_, _≤_}
 use native.Mathlib.Nat.{one-mul, pow-suc}
 use native.Mathlib.Numerals.{add-one}
-use native.Mathlib.Decide.{decLt}
 use native.Mathlib.Omega.{arith}
 use lib.Pow.{pow-pos, pow-mono}
 use lib.Bits.{bitXor, xor-shifted}
@@ -12,17 +12,10 @@ use lib.ListN.{length, getD, set, length-set, replicate}
 use lib.Seq.{getD-set-same, getD-set-other}
 use Rattle.defs.specs.Field.{Width, add, times2, mul}
 use Rattle.theory.proofs.Field as F
+use Rattle.theory.proofs.Order.{lt-or-le}
 use Rattle.theory.proofs.Place.{zeros-zero}
 use Rattle.theory.proofs.Width.{field-top}
 use Rattle.field.specs.Arithmetic.{Element, Products, Doubled}
-
--- either way round
-by-order : {P : Type 0} (a b : ℕ) → (a < b → P) → (b ≤ a → P) → P
-by-order {P} a b f g = go (decLt a b)
-  where
-    go : Dec (a < b) → P
-    go (yes h) = f h
-    go (no n) = g (omega arith)
 
 -- ---- one doubling, which has copied j entries
 
@@ -36,7 +29,7 @@ unfolding add
 next-copy size step j old row room h d = record {
   long = length-set row (size + j) _ ∙ d .long;
   low = λ x l. other x (omega arith) ∙ d .low x l;
-  high = λ x l. by-order x j (λ k. other (size + x) (omega arith) ∙ d .high x k) (λ k. here x (omega arith));
+  high = λ x l. ⊎-elim (λ k. other (size + x) (omega arith) ∙ d .high x k) (λ k. here x (omega arith)) (lt-or-le x j);
   rest = λ x l. other x (omega arith) ∙ d .rest x (omega arith);
 }
   where
@@ -94,19 +87,22 @@ module _ (m c : ℕ) where
 
     fill-at : (x : ℕ) → x < size * 2 → getD row′ x 0 ≡ mul m c x
     fill-at x l =
-        by-order x size (λ k. d .low x k ∙ f .at x (omega (arith, f .count)))
+        ⊎-elim (λ k. d .low x k ∙ f .at x (omega (arith, f .count)))
         (λ k. upper x k ∙ d .high (x - size) (omega arith)
         ∙ ap₂ add (f .at (x - size) (omega (arith, f .count))) (f .next h)
         ∙ one-more i (x - size) (omega (arith, f .count))
         ∙ ap (mul m c) (omega (arith, f .count)))
+        (lt-or-le x size)
 
     fill-small : (x : ℕ) → getD row′ x 0 < 2 ^ m
     fill-small x =
-        by-order x size (λ k. rw (d .low x k) (f .small x))
-        (λ k. by-order x (size + size)
-        (λ l. rw (upper x k ∙ d .high (x - size) (omega arith))
+        ⊎-elim (λ k. rw (d .low x k) (f .small x))
+        (λ k. ⊎-elim
+        (λ (l : x < size + size). rw (upper x k ∙ d .high (x - size) (omega arith))
         (F.add-lt m _ step (f .small (x - size)) (f .small-step)))
-        (λ l. rw (d .rest x l) (f .small x)))
+        (λ l. rw (d .rest x l) (f .small x))
+        (lt-or-le x (size + size)))
+        (lt-or-le x size)
 
     twice : size * 2 ≡ 2 ^ suc i
     twice = ap (λ (y : ℕ). y * 2) (f .count) ∙ sym (pow-suc 2 i)

@@ -2,6 +2,5 @@
 pub mod Rules
 pub mod Pascal
 pub mod Elements
-pub mod Squaring
 pub mod Twice
 pub mod Doubling

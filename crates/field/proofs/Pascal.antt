@@ -10,7 +10,7 @@ use lib.Seq.{getD-append-add}
 use Rattle.defs.specs.Field.{binom}
 use Rattle.defs.specs.Limits.{deepest, longest}
 use Rattle.field.specs.Arithmetic.{Parities}
-use Rattle.field.proofs.Rules.{same, same-is}
+use Rattle.defs.proofs.Search.{same, same-eq}
 
 -- the row below xs, whose entry to the left of xs is p
 unfoldable pub below : ℕ → List ℕ → List ℕ
@@ -90,7 +90,7 @@ start-row = record { size = refl; at = entry }
 
 pub parities-table : {xs : List ℕ} → T (same xs (rows longest start)) → Parities xs
 parities-table {xs} t =
-    subst Parities (sym (same-is xs _ t))
+    subst Parities (sym (same-eq xs _ t))
     (record {
       size = rows-length longest start (start-row .size);
       at = λ a b ha hb. rows-at longest 0 a b start start-row ha hb ∙ ap (λ (k : ℕ). binom k b % 2) (zero-add a);

@@ -1,33 +1,16 @@
 -- The rules of the tables of powers and logarithms, from one computed test over each table.
-use mathlib.Core.Path.{_≡_, refl, sym, ap, ap₂, _∙_, subst}
+use mathlib.Core.Path.{_≡_, sym, ap, _∙_, subst}
 use mathlib.Core.Logic.{⊎-elim}
-use mathlib.Core.Bool.{Bool, true, false, _&&_, _||_}
+use mathlib.Core.Bool.{Bool, true, _&&_, _||_}
 use mathlib.Core.List.{List, [], _∷_}
 use Prim.Native.Nat.{ℕ, zero, suc, _+_, _*_, _-_, _^_, _<_}
 use native.Mathlib.Nat.{add-zero, add-suc, suc-add, zero-add, not-suc-le-zero, le-of-suc-le-suc}
 use lib.Dec.{T, eqb, ltb, eqb→eq, ltb→lt}
 use lib.ListN.{length, getD}
 use mir.Facts.{and-yes, or-yes}
+use Rattle.defs.proofs.Search.{same, same-eq}
 use Rattle.theory.proofs.Generator.{powers, powers-length, powers-at}
 use Rattle.field.specs.Arithmetic.{Powers, Logarithm, Logarithms}
-
--- ---- two tests
-
--- a table is the list that was computed
-unfoldable pub same : List ℕ → List ℕ → Bool
-same [] [] = true
-same [] (y ∷ ys) = false
-same (x ∷ xs) [] = false
-same (x ∷ xs) (y ∷ ys) = eqb x y && same xs ys
-
-pub same-is : (xs ys : List ℕ) → T (same xs ys) → xs ≡ ys
-unfolding same
-same-is [] [] t = refl
-same-is [] (y ∷ ys) t = absurd t
-same-is (x ∷ xs) [] t = absurd t
-same-is (x ∷ xs) (y ∷ ys) t =
-    let (e, u) = and-yes (eqb x y) (same xs ys) t in
-    ap₂ _∷_ (eqb→eq x y e) (same-is xs ys u)
 
 -- f passes at each entry and its place, counted from i
 unfoldable pub every : (ℕ → ℕ → Bool) → ℕ → List ℕ → Bool
@@ -51,7 +34,7 @@ every-at f xs t k h = subst (λ (n : ℕ). T (f n (getD xs k 0))) (zero-add k) (
 
 pub powers-table : (m : ℕ) → 1 < m → {xs : List ℕ} → T (same xs (powers m (2 * (2 ^ m - 1)) 1)) → Powers m xs
 powers-table m w {xs} t =
-    subst (Powers m) (sym (same-is xs _ t))
+    subst (Powers m) (sym (same-eq xs _ t))
     (record {
       size = powers-length m (2 * (2 ^ m - 1)) 1;
       at = λ i h. powers-at m (2 * (2 ^ m - 1)) i w h;

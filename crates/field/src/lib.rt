@@ -1,74 +1,69 @@
-// Arithmetic of the fields with 4, 16 and 256 elements, and parities of binomials.
+// Arithmetic of the fields with 4, 16 and 256 elements, and the parities of binomials as a table.
 mod tables;
 
-use defs::DEEPEST;
-use defs::LONGEST;
+use tables::ELEMENTS;
+use tables::ELEMENTS4;
+use tables::ELEMENTS16;
 use tables::EXP;
 use tables::EXP4;
 use tables::EXP16;
 use tables::LOG;
 use tables::LOG4;
 use tables::LOG16;
+use tables::PARITIES;
 use tables::PARITY;
+pub use tables::POWERS;
+use tables::POWERS4;
+use tables::POWERS16;
 ghost use mathlib.Core.Path.{_≡_};
-ghost use Prim.Native.Nat.{_+_, _*_, _-_, _%_, _^_, _<_, _≤_};
-ghost use Rattle.defs.specs.Field.{Width, modulus, times2, mul, pow, binom};
-ghost use Rattle.defs.specs.Limits.{deepest, longest};
+ghost use Prim.Native.Nat.{_+_, _*_, _-_, _^_, _<_, _≤_};
+ghost use Rattle.defs.specs.Field.{Width, times2, mul, pow};
 ghost use Rattle.field.specs.Arithmetic.{Element, Inverse, Logarithm, Powers, Logarithms};
 ghost use Rattle.field.specs.Arithmetic.{Parities, Products, Doubled};
 ghost use lib.ListN.{length};
 
 // The tables, each with its rule, so that whoever looks one up cites the rule.
-fn powers4() -> [u8; 6]
+fn powers4() -> [u8; POWERS4]
     ensures { λ r. ⌜ Powers 2 r ⌝ }
 {
     EXP4
 }
 
-fn powers16() -> [u8; 30]
+fn powers16() -> [u8; POWERS16]
     ensures { λ r. ⌜ Powers 4 r ⌝ }
 {
     EXP16
 }
 
-fn powers256() -> [u8; 510]
+fn powers256() -> [u8; POWERS]
     ensures { λ r. ⌜ Powers 8 r ⌝ }
 {
     EXP
 }
 
-fn logarithms4() -> [u8; 4]
+fn logarithms4() -> [u8; ELEMENTS4]
     ensures { λ r. ⌜ Logarithms 2 r ⌝ }
 {
     LOG4
 }
 
-fn logarithms16() -> [u8; 16]
+fn logarithms16() -> [u8; ELEMENTS16]
     ensures { λ r. ⌜ Logarithms 4 r ⌝ }
 {
     LOG16
 }
 
-fn logarithms256() -> [u8; 256]
+fn logarithms256() -> [u8; ELEMENTS]
     ensures { λ r. ⌜ Logarithms 8 r ⌝ }
 {
     LOG
 }
 
 // For an inner loop to look up in: a const is built anew at every read.
-pub fn parities() -> [u8; LONGEST * DEEPEST]
+pub fn parities() -> [u8; PARITIES]
     ensures { λ r. ⌜ Parities r ⌝ }
 {
     PARITY
-}
-
-// Whether C(a, b) is odd: 1 or 0.
-pub fn odd_binomial(a: usize, b: usize) -> u8
-    requires { ⌜ (a < longest) × (b < deepest) ⌝ }
-    ensures { λ r. ⌜ r ≡ binom a b % 2 ⌝ }
-{
-    let table = parities();
-    table[a * DEEPEST + b]
 }
 
 // The power i of 2.
@@ -122,7 +117,7 @@ pub fn mul(m: usize, a: u8, b: u8) -> u8
 }
 
 // The number of elements.
-fn size(m: usize) -> usize
+pub fn field_size(m: usize) -> usize
     requires { ⌜ Width m ⌝ }
     ensures { λ r. ⌜ r ≡ 2 ^ m ⌝ }
 {
@@ -134,52 +129,38 @@ pub fn inverse(m: usize, a: u8) -> u8
     requires { ⌜ (a < 2 ^ m) × (a ≡ 0 → ⊥) ⌝ }
     ensures { λ r. ⌜ Inverse m a r ⌝ }
 {
-    exp(m, size(m) - 1 - log(m, a) as usize)
+    exp(m, field_size(m) - 1 - log(m, a) as usize)
 }
 
-// Square and multiply.
-pub fn power(m: usize, a: u8, e: usize) -> u8
+// The least element whose double is reduced.
+fn half(m: usize) -> u8
     requires { ⌜ Width m ⌝ }
-    requires { ⌜ a < 2 ^ m ⌝ }
-    ensures { λ r. ⌜ Element m (pow m a e) r ⌝ }
-{
-    let mut r: u8 = 1;
-    let mut b = a;
-    let mut k = e;
-    while 0 < k {
-        if k % 2 == 1 {
-            r = mul(m, r, b);
-        }
-        b = mul(m, b, b);
-        k = k / 2;
-    }
-    r
-}
-
-fn modulus(m: usize) -> usize
-    requires { ⌜ Width m ⌝ }
-    ensures { λ r. ⌜ r ≡ modulus m ⌝ }
+    ensures { λ h. ⌜ h * 2 ≡ 2 ^ m ⌝ }
 {
     if m == 2 {
-        return 7;
+        return 2;
     }
     if m == 4 {
-        return 19;
+        return 8;
     }
-    285
+    128
 }
 
-// 2 a, without a table.
+// 2 a, by operations on bytes alone, so that a loop over a row doubles many entries at a time. 29 and 3 are the moduli without bit m.
 pub fn times2(m: usize, a: u8) -> u8
     requires { ⌜ Width m ⌝ }
     requires { ⌜ a < 2 ^ m ⌝ }
     ensures { λ r. ⌜ Element m (times2 m a) r ⌝ }
 {
-    let twice = a as usize * 2;
-    if twice < size(m) {
-        return twice as u8;
+    let top = half(m);
+    if a < top {
+        return a + a;
     }
-    (twice ^ modulus(m)) as u8
+    let rest = a - top;
+    if m == 8 {
+        return (rest + rest) ^ 29;
+    }
+    (rest + rest) ^ 3
 }
 
 // The first size entries once more behind them, each with step added.

@@ -3,8 +3,25 @@
 use defs::DEEPEST;
 use defs::LONGEST;
 
+// How many elements the fields have, each of which has an entry among the logarithms.
+pub const ELEMENTS4: usize = 4;
+
+pub const ELEMENTS16: usize = 16;
+
+pub const ELEMENTS: usize = 256;
+
+// How many powers of 2 are kept: twice round, so that the sum of two logarithms finds its power.
+pub const POWERS4: usize = 2 * (ELEMENTS4 - 1);
+
+pub const POWERS16: usize = 2 * (ELEMENTS16 - 1);
+
+pub const POWERS: usize = 2 * (ELEMENTS - 1);
+
+// How many parities: C(a, b) for a below the longest row and b below the deepest chunk.
+pub const PARITIES: usize = LONGEST * DEEPEST;
+
 // 2^i at i, in the field with 256 elements.
-pub const EXP: [u8; 510] = [
+pub const EXP: [u8; POWERS] = [
     1,
     2,
     4,
@@ -518,7 +535,7 @@ pub const EXP: [u8; 510] = [
 ];
 
 // The power of 2 that a is, at a. The entry at 0 means nothing.
-pub const LOG: [u8; 256] = [
+pub const LOG: [u8; ELEMENTS] = [
     0,
     0,
     1,
@@ -778,7 +795,7 @@ pub const LOG: [u8; 256] = [
 ];
 
 // C(a, b) modulo 2, at a * 8 + b.
-pub const PARITY: [u8; LONGEST * DEEPEST] = [
+pub const PARITY: [u8; PARITIES] = [
     1,
     0,
     0,
@@ -1806,13 +1823,13 @@ pub const PARITY: [u8; LONGEST * DEEPEST] = [
 ];
 
 // 2^i at i, in the field with 4 elements.
-pub const EXP4: [u8; 6] = [1, 2, 3, 1, 2, 3];
+pub const EXP4: [u8; POWERS4] = [1, 2, 3, 1, 2, 3];
 
 // The power of 2 that a is in the field with 4 elements, at a. The entry at 0 means nothing.
-pub const LOG4: [u8; 4] = [0, 0, 1, 2];
+pub const LOG4: [u8; ELEMENTS4] = [0, 0, 1, 2];
 
 // 2^i at i, in the field with 16 elements.
-pub const EXP16: [u8; 30] = [
+pub const EXP16: [u8; POWERS16] = [
     1,
     2,
     4,
@@ -1846,4 +1863,4 @@ pub const EXP16: [u8; 30] = [
 ];
 
 // The power of 2 that a is in the field with 16 elements, at a. The entry at 0 means nothing.
-pub const LOG16: [u8; 16] = [0, 0, 1, 4, 2, 8, 5, 10, 3, 14, 9, 7, 6, 13, 11, 12];
+pub const LOG16: [u8; ELEMENTS16] = [0, 0, 1, 4, 2, 8, 5, 10, 3, 14, 9, 7, 6, 13, 11, 12];

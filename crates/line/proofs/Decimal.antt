@@ -56,6 +56,20 @@ pub length-decimal : (d x : ℕ) → x < 10 ^ suc d → length (decimal x) ≤ s
 unfolding decimal
 length-decimal d x h = length-digits 20 d x h
 
+-- no number has more digits than it counts beyond the first
+digits-top : (e x : ℕ) → length (digits e x) ≤ suc x
+unfolding digits
+digits-top zero x = zero-le
+digits-top (suc e) x = go (decLt x 10) (digits-top e (x / 10))
+  where
+    go : Dec (x < 10) → length (digits e (x / 10)) ≤ suc (x / 10) → length (digits (suc e) x) ≤ suc x
+    go (yes l) ih = omega (arith, ap length (digits-one e x l))
+    go (no l) ih = omega (arith, ap length (digits-ten e x (omega arith)), length-append (digits e (x / 10)) ((48 + x % 10) ∷ []))
+
+pub decimal-top : (x : ℕ) → length (decimal x) ≤ suc x
+unfolding decimal
+decimal-top x = digits-top 20 x
+
 -- ---- numbers behind spaces
 
 pub spaced-append : (s t : List ℕ) → spaced (s ++ t) ≡ spaced s ++ spaced t

@@ -1,5 +1,5 @@
--- The line of a row that was decoded; a line fits a buffer of 1024 bytes.
-use Prim.Native.Nat.{ℕ, _*_, _<_, _≤_}
+-- No line is longer than the room for it, 6 bytes for each symbol of the longest row and 8.
+use Prim.Native.Nat.{ℕ, _*_, _+_, _<_, _≤_}
 use mathlib.Core.Path.{_≡_}
 use mathlib.Core.List.{List}
 use native.Mathlib.Decide.{decLt}
@@ -9,23 +9,25 @@ use lib.Dec.{lit<}
 use lib.ListN.{length, getD, List·getD-eq-default}
 use Rattle.defs.specs.Place.{tab}
 use Rattle.defs.specs.Row.{rowOf}
+use Rattle.defs.specs.Refusal.{placeOf}
 use Rattle.defs.specs.Distance.{damage, depths, distance, radius, reach, Near}
 use Rattle.defs.specs.Limits.{longest, Inside}
-use Rattle.defs.specs.Decode.{decodeVerdict, Decoded, refused, found, none}
+use Rattle.defs.specs.Decode.{Decoded, refused, found, none}
 use Rattle.defs.specs.Line as L
-use Rattle.defs.specs.Line.{refusedLine, doneLine, RowLine, Line}
+use Rattle.defs.specs.Line.{lineOf, RowLine, Line}
 use Rattle.defs.specs.declared.Refusal.{Refusal}
 use Rattle.defs.specs.declared.Refusal.the-variants.{TooFar}
-use Rattle.defs.specs.declared.Verdict.the-variants.{Fine}
 use Rattle.defs.specs.declared.Answer.{Answer}
 use Rattle.defs.specs.declared.Answer.the-variants.{Done, Refused as No}
-use Rattle.theory.specs.Limits.{Limits}
 use Rattle.theory.proofs.Place.{length-tab, getD-tab}
-use Rattle.theory.proofs.Limits.{inside-known, count-small, then-fine}
+use Rattle.theory.proofs.Distance.{length-depths}
+use Rattle.theory.proofs.Limits.{inside-known, count-small}
+use Rattle.theory.proofs.Checks.{decode-known}
+use Rattle.theory.proofs.Refusals.{decode-every}
 use Rattle.theory.proofs.Width.{field-top}
-use Rattle.line.specs.Text.{room, Wrote, RowText}
+use Rattle.line.specs.Text.{room}
 use Rattle.line.proofs.Lengths.{refused-short, done-short}
-use Rattle.line.proofs.Slips.{inside, refused-place}
+use Rattle.line.proofs.Slips.{read-every}
 
 depth-low : (r count : ℕ) (u w : List ℕ) → r ≤ 8 → (i : ℕ) → getD (depths r count u w) i 0 < 10
 unfolding depths damage
@@ -35,68 +37,36 @@ depth-low r count u w h i = go (decLt i count)
     go (yes l) = rw (getD-tab (damage r u w) count i l) (omega arith)
     go (no l) = rw (List·getD-eq-default (tab (damage r u w) count) 0 {n = i} (omega (arith, length-tab (damage r u w) count))) (lit< tt)
 
-length-depths : (r count : ℕ) (u w : List ℕ) → length (depths r count u w) ≡ count
-unfolding depths
-length-depths r count u w = length-tab _ count
-
-reach-low : (r k : ℕ) (points : List ℕ) → r * length points ≤ longest → reach r k points < 1000
+-- twice the radius and the message are no more than the row
+reach-top : (r k : ℕ) (points : List ℕ) → k ≤ r * length points → k + 2 * reach r k points ≤ r * length points
 unfolding radius
-reach-low r k points h = omega arith
+reach-top r k points h = omega arith
 
--- ---- a row of a code inside the limits
-
-module _ (m r k : ℕ) (points w : List ℕ) (within : Inside m r k points) where
-  limits : Limits m r k points
-  limits = inside-known m r k points within
-
-  found-short : (f : List ℕ) → Near m r k points w f
-      → length (doneLine (distance r (length points) (rowOf m r points f) w) f (depths r (length points) (rowOf m r points f) w)) ≤ room
-  found-short f near =
-      let n = limits .numbers in
+module _ (m r k : ℕ) (points w : List ℕ) where
+  found-short : (f : List ℕ) → Inside m r k points → Near m r k points w f
+      → length (lineOf (Done (distance r (length points) (rowOf m r points f) w)) f (depths r (length points) (rowOf m r points f) w)) ≤ room
+  found-short f inside near =
+      let n = inside-known m r k points inside .numbers in
       done-short _ f _
-      (omega (arith, near .within, reach-low r k points (n .row-top)))
-      (omega (arith, near .message .size, n .k-top, n .row-top))
+      (omega (arith, near .within, near .message .size, reach-top r k points (n .k-top), n .row-top))
       (λ i. lt-of-lt-of-le (near .message .symbols i) (omega (arith, field-top m (n .width))))
       (omega (arith, length-depths r (length points) (rowOf m r points f) w, count-small n))
       (depth-low r (length points) (rowOf m r points f) w (n .r-top))
 
+  -- the line of a refusal says nothing of message and depths
+  any-short : (x : Refusal) (s t : List ℕ) → placeOf x < longest → length (lineOf (No x) s t) ≤ room
+  unfolding lineOf
+  any-short x s t h = refused-short x h
+
+  decoded-short : (message depth : List ℕ) (a : Answer) (s t : List ℕ) → Decoded m r k points w message depth a s t → length (lineOf a s t) ≤ room
+  decoded-short message depth a s t (refused x v p _ _) =
+      rw p (any-short x s t (decode-every (λ y l. l) m r k points w (length message) (length depth) .of x v))
+  decoded-short message depth a s t (found f v near p q h) = rw (p, q, h) (found-short f (decode-known m r k points w _ _ v .0) near)
+  decoded-short message depth a s t (none v far p _ _) = rw p (any-short TooFar s t (lit< tt))
+
   pub row-short : (text : List ℕ) → RowLine m r k points w text → length text ≤ room
-  row-short text (L.found f near e) = rw e (found-short f near)
-  row-short text (L.none far e) = rw e (refused-short TooFar (lit< tt))
-
--- ---- what the decoder answers is the line
-
--- t is the line of a row, and there is room for it
-pub record Ready (m r k : ℕ) (points w t : List ℕ) : Type 0 where
-  pub is-line : RowLine m r k points w t
-  pub short : length t ≤ room
-
-module _ (m r k : ℕ) (points w message depth : List ℕ) (fine : decodeVerdict m r k points w (length message) (length depth) ≡ Fine) where
-  ready : (t : List ℕ) → RowLine m r k points w t → Ready m r k points w t
-  unfolding decodeVerdict
-  ready t row = record { is-line = row; short = row-short m r k points w (then-fine _ _ fine .0) t row }
-
-  pub done-ready : (a : Answer) (message′ depth′ : List ℕ) (d : ℕ) → a ≡ Done d → Decoded m r k points w message depth a message′ depth′
-      → Ready m r k points w (doneLine d message′ depth′)
-  done-ready a message′ depth′ d q (refused x v e _ _) = let z : _≡_ {A = ℕ} 0 1 = cc in absurd (omega arith)
-  done-ready a message′ depth′ d q (found f v near e e₁ e₂) = ready _ (L.found f near (cc))
-  done-ready a message′ depth′ d q (none v far e _ _) = let z : _≡_ {A = ℕ} 0 1 = cc in absurd (omega arith)
-
-  pub refused-ready : (a : Answer) (message′ depth′ : List ℕ) (x : Refusal) → a ≡ No x → Decoded m r k points w message depth a message′ depth′
-      → Ready m r k points w (refusedLine x)
-  refused-ready a message′ depth′ x q (refused y v e _ _) = let z : _≡_ {A = ℕ} 0 1 = cc in absurd (omega arith)
-  refused-ready a message′ depth′ x q (found f v near e _ _) = let z : _≡_ {A = ℕ} 0 1 = cc in absurd (omega arith)
-  refused-ready a message′ depth′ x q (none v far e _ _) = ready _ (L.none far (cc))
-
-pub row-text : {m r k : ℕ} {points w t old new : List ℕ} {end : ℕ}
-    → Ready m r k points w t → length old ≡ room → Wrote old 0 t new end → RowText m r k points w new end
-row-text {t = t} {old = old} {new = new} ready e wrote = record {
-  within = omega (arith, wrote .ends, wrote .size, ready .short);
-  is-line = rw (wrote .text) (ready .is-line);
-}
-
--- ---- every line
+  row-short text (L.decoded message depth s t a _ _ d e) = rw e (decoded-short message depth a s t d)
 
 pub line-short : (bytes text : List ℕ) → Line bytes text → length text ≤ room
-line-short bytes text (L.refused x e q) = rw q (refused-short x (refused-place bytes x e))
-line-short bytes text (L.read e row) = row-short _ _ _ _ _ (inside bytes e) text row
+line-short bytes text (L.refused x e q) = rw q (refused-short x (read-every (λ y o l. l) bytes longest longest .of x e))
+line-short bytes text (L.read e row) = row-short _ _ _ _ _ text row

@@ -7,7 +7,7 @@ use native.Mathlib.Omega.{arith}
 use lib.ListN.{length, getD, take, set, length-append, length-set}
 use lib.Seq.{take-suc-set, take-all}
 use Rattle.defs.specs.Refusal.{number, detail}
-use Rattle.defs.specs.Line.{decimal, spaced, listed, heading, refusedLine, doneLine}
+use Rattle.defs.specs.Line.{decimal, spaced, listed, heading, lineOf}
 use Rattle.defs.specs.declared.Refusal.{Refusal}
 use Rattle.defs.specs.declared.Answer.{Answer}
 use Rattle.defs.specs.declared.Answer.the-variants.{Done, Refused as No}
@@ -37,6 +37,10 @@ wrote-then {old} {mid} {new} {at} {p} {q} u v a b = record {
   text = b .text ∙ ap (λ (t : List ℕ). t ++ v) (a .text) ∙ append-assoc (take at old) u v;
 }
 
+-- where there was room for a piece and n bytes more, there is room for n behind it
+pub left-over : {old piece new : List ℕ} {at end : ℕ} (n : ℕ) → Wrote old at piece new end → at + (length piece + n) ≤ length old → end + n ≤ length new
+left-over {old} {piece} {new} n wrote h = omega (arith, wrote .size, wrote .ends)
+
 -- ---- numbers behind spaces, one a turn
 
 pub wrote-more : {old mid new : List ℕ} {at p q : ℕ} (s : List ℕ) (i : ℕ) → i < length s
@@ -60,8 +64,8 @@ module _ (a : Answer) (n d : ℕ) (number-is : n ≡ number a) (detail-is : d �
   wrote-heading u v = rw (← number-is, ← detail-is) (wrote-then _ _ u v)
 
 pub wrote-refused : {old mid new : List ℕ} {at p q : ℕ} (x : Refusal)
-    → Wrote old at (heading (No x)) mid p → Wrote mid p (10 ∷ []) new q → Wrote old at (refusedLine x) new q
-unfolding refusedLine
+    → Wrote old at (heading (No x)) mid p → Wrote mid p (10 ∷ []) new q → Wrote old at (lineOf (No x) [] []) new q
+unfolding lineOf
 wrote-refused x u v = wrote-then _ _ u v
 
 pub wrote-list : {old one two new : List ℕ} {at p q e : ℕ} (s : List ℕ)
@@ -71,6 +75,6 @@ wrote-list s u v w = wrote-then (32 ∷ []) (124 ∷ spaced s) u (wrote-then (12
 
 pub wrote-done : {old one two three new : List ℕ} {at p q e z : ℕ} (d : ℕ) (message depth : List ℕ)
     → Wrote old at (heading (Done d)) one p → Wrote one p (listed message) two q → Wrote two q (listed depth) three e
-    → Wrote three e (10 ∷ []) new z → Wrote old at (doneLine d message depth) new z
-unfolding doneLine
+    → Wrote three e (10 ∷ []) new z → Wrote old at (lineOf (Done d) message depth) new z
+unfolding lineOf
 wrote-done d message depth u v w x = wrote-then _ _ u (wrote-then _ _ v (wrote-then _ _ w x))

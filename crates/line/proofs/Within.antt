@@ -6,18 +6,17 @@ use native.Mathlib.Omega.{arith}
 use lib.ListN.{length, drop, length-append}
 use Rattle.defs.specs.Refusal.{answer, kept}
 use Rattle.defs.specs.Write.{front}
-use Rattle.defs.specs.Line.{Lined}
-use Rattle.defs.specs.declared.Verdict.{Verdict}
-use Rattle.defs.specs.declared.Verdict.the-variants.{Fine, Refused}
+use Rattle.defs.specs.Line.{lineVerdict, Lined}
+use Rattle.defs.specs.declared.Verdict.the-variants.{Fine}
 use Rattle.defs.specs.declared.Answer.{Answer}
 use Rattle.defs.specs.declared.Answer.the-variants.{Done}
-
-holds : (v : Verdict) (text old b : List ℕ) (d : ℕ) → Done d ≡ answer v (length text) → b ≡ kept v (front text old) old → d ≤ length b
-unfolding answer kept front
-holds Fine text old b d a e =
-    let q : d ≡ length text = cc in
-    omega (arith, ap length e, length-append text (drop (length text) old))
-holds (Refused y) text old b d a e = let z : _≡_ {A = ℕ} 0 1 = cc in absurd (omega arith)
+use Rattle.theory.proofs.Verdict.{answer-done}
 
 pub done-within : (bytes buffer : List ℕ) (a : Answer) (d : ℕ) (b : List ℕ) → Lined bytes buffer a b → a ≡ Done d → d ≤ length b
-done-within bytes buffer a d b u e = holds _ (u .text) buffer b d (sym e ∙ u .answers) (u .leaves)
+unfolding answer kept front
+done-within bytes buffer a d b u e =
+    let v = lineVerdict (u .text) (length buffer) in
+    let fine : v ≡ Fine = answer-done v _ d (sym (u .answers) ∙ e) in
+    let size : d ≡ length (u .text) = cc (rw fine at (u .answers)) in
+    let is : b ≡ front (u .text) buffer = rw fine at (u .leaves) in
+    omega (arith, ap length is, length-append (u .text) (drop (length (u .text)) buffer))

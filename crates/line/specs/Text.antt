@@ -6,15 +6,13 @@ use lib.ListN.{length, take}
 use Rattle.defs.specs.Refusal.{answer, kept}
 use Rattle.defs.specs.Limits.{longest}
 use Rattle.defs.specs.Write.{front}
-use Rattle.defs.specs.Decode.{decodeVerdict}
 use Rattle.defs.specs.Line.{RowLine, Line, lineVerdict}
-use Rattle.defs.specs.declared.Verdict.the-variants.{Fine}
 use Rattle.defs.specs.declared.Answer.{Answer}
 use Rattle.defs.specs.declared.SlipRead.{SlipRead}
 
 -- no line has more bytes
 abbrev pub room : ℕ
-room = 1024
+room = 6 * longest + 8
 
 -- from the place at on a piece was written to the buffer old, which is new then; the text ends at end
 pub record Wrote (old : List ℕ) (at : ℕ) (piece new : List ℕ) (end : ℕ) : Type 0 where
@@ -27,10 +25,11 @@ pub record Handed (text buffer : List ℕ) (a : Answer) (buffer′ : List ℕ) :
   pub answers : a ≡ answer (lineVerdict text (length buffer)) (length text)
   pub leaves : buffer′ ≡ kept (lineVerdict text (length buffer)) (front text buffer) buffer
 
--- the decoder takes the row, with room for its message, its depths and its line
-pub record Decodable (m r k : ℕ) (points w : List ℕ) (size count n : ℕ) : Type 0 where
-  pub fine : decodeVerdict m r k points w size count ≡ Fine
-  pub enough : n ≡ room
+-- there is room for a message of k symbols, the depths of so many chunks, and the line
+pub record Roomy (k count size depths n : ℕ) : Type 0 where
+  pub message : size ≡ k
+  pub depth : depths ≡ count
+  pub text : n ≡ room
 
 -- the first bytes of the buffer are the line of a row
 pub record RowText (m r k : ℕ) (points w buffer : List ℕ) (end : ℕ) : Type 0 where
@@ -43,7 +42,7 @@ pub record Taken (s : SlipRead) (points row : List ℕ) (n : ℕ) : Type 0 where
   pub row-in : s .r * s .count ≤ length row
   pub k-top : s .k ≤ longest
   pub count-top : s .count ≤ longest
-  pub decodable : Decodable (s .m) (s .r) (s .k) (take (s .count) points) (take (s .r * s .count) row) (s .k) (s .count) n
+  pub text : n ≡ room
 
 abbrev pub SlipText : SlipRead → List ℕ → List ℕ → List ℕ → ℕ → Type 0
 SlipText s points row buffer end = RowText (s .m) (s .r) (s .k) (take (s .count) points) (take (s .r * s .count) row) buffer end

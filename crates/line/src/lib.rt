@@ -4,16 +4,16 @@ ghost use mathlib.Core.List.{[], _∷_};
 ghost use Prim.Native.Nat.{_+_, _<_, _≤_};
 ghost use lib.ListN.{length};
 ghost use Rattle.defs.specs.Limits.{longest};
-ghost use Rattle.defs.specs.Write.{front};
-ghost use Rattle.defs.specs.Line.{decimal, spaced, listed, heading, refusedLine, doneLine, Lined};
-ghost use Rattle.line.specs.Text.{room, Wrote, Handed, Decodable, RowText, Taken, SlipText, Text};
+ghost use Rattle.defs.specs.Line.{decimal, spaced, listed, heading, lineOf, Lined};
+ghost use Rattle.defs.specs.declared.Answer.the-variants.{Done, Refused as No};
+ghost use Rattle.line.specs.Text.{room, Wrote, Handed, Roomy, RowText, Taken, SlipText, Text};
 use defs::Answer;
 use defs::LONGEST;
 use defs::Refusal;
 use defs::SlipRead;
 
-// No line has more bytes than this.
-pub const ROOM: usize = 1024;
+// No line has more bytes than this: a message and depths of the longest row, and what stands around them.
+pub const ROOM: usize = 6 * LONGEST + 8;
 
 // One byte.
 fn put(text: &mut [u8], at: usize, byte: u8) -> usize
@@ -81,16 +81,16 @@ fn put_heading(text: &mut [u8], a: Answer) -> usize
 }
 
 fn put_refused(text: &mut [u8], x: Refusal) -> usize
-    requires { ⌜ length (refusedLine x) ≤ length (now text) ⌝ }
-    ensures { λ end. ⌜ Wrote (now (text .entry)) 0 (refusedLine x) (now (text .exit)) end ⌝ }
+    requires { ⌜ length (lineOf (No x) [] []) ≤ length (now text) ⌝ }
+    ensures { λ end. ⌜ Wrote (now (text .entry)) 0 (lineOf (No x) [] []) (now (text .exit)) end ⌝ }
 {
     let next = put_heading(text, Answer::Refused(x));
     put(text, next, b'\n')
 }
 
 fn put_done(text: &mut [u8], total: usize, message: &[u8], depths: &[u8]) -> usize
-    requires { ⌜ length (doneLine total (now message) (now depths)) ≤ length (now text) ⌝ }
-    ensures { λ end. ⌜ Wrote (now (text .entry)) 0 (doneLine total (now (message .entry)) (now (depths .entry))) (now (text .exit)) end ⌝ }
+    requires { ⌜ length (lineOf (Done total) (now message) (now depths)) ≤ length (now text) ⌝ }
+    ensures { λ end. ⌜ Wrote (now (text .entry)) 0 (lineOf (Done total) (now (message .entry)) (now (depths .entry))) (now (text .exit)) end ⌝ }
 {
     let first = put_heading(text, Answer::Done(total));
     let second = put_list(text, first, message);
@@ -120,7 +120,7 @@ fn put_row(
     message: &mut [u8],
     depths: &mut [u8],
 ) -> usize
-    requires { ⌜ Decodable m r k (now points) (now row) (length (now message)) (length (now depths)) (length (now text)) ⌝ }
+    requires { ⌜ Roomy k (length (now points)) (length (now message)) (length (now depths)) (length (now text)) ⌝ }
     ensures { λ end. ⌜ RowText m r k (now (points .entry)) (now (row .entry)) (now (text .exit)) end ⌝ }
 {
     let a = decode::decode(m, r, k, points, row, message, depths);

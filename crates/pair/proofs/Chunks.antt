@@ -9,9 +9,9 @@ use native.Mathlib.Omega.{arith}
 use lib.ListN.{getD}
 use Rattle.defs.specs.Field.{add, mul}
 use Rattle.defs.specs.Row.{sum}
+use Rattle.theory.proofs.Order.{lt-or-le}
 use Rattle.theory.proofs.Sum.{sum-ext, sum-last}
 use Rattle.solve.specs.Table.{stride, at}
-use Rattle.solve.proofs.Sums.{lt-or-le}
 use Rattle.pair.specs.Equation.{powerAt, mixedAt}
 use Rattle.pair.specs.Fill.{Powers, Added, Chunk}
 

@@ -8,12 +8,11 @@ use native.Mathlib.Omega.{arith}
 use lib.ListN.{getD}
 use lib.Pow.{pow-pos}
 use Rattle.defs.specs.Field.{add, mul}
+use Rattle.theory.proofs.Order.{eq-or-not, eq-lt}
 use Rattle.theory.proofs.Field.{add-lt, mul-lt}
 use Rattle.theory.proofs.Generator.{one-lt}
 use Rattle.field.specs.Arithmetic.{Products}
 use Rattle.solve.specs.Table.{stride, Shape}
-use Rattle.solve.proofs.Sums.{eq-or-not}
-use Rattle.solve.proofs.Free.{eq-lt}
 use Rattle.solve.proofs.Writes.{byte}
 use Rattle.pair.specs.Equation.{deeper, powerAt}
 use Rattle.pair.specs.Fill.{look, Bytes, Span, Powers}

@@ -2,7 +2,6 @@
 use Prim.Native.Nat.{ℕ, zero, suc, _+_, _-_, _<_, min}
 use mathlib.Core.Path.{_≡_, refl, ap, ap₂, sym, _∙_}
 use mathlib.Core.List.{List, [], _∷_}
-use native.Mathlib.Nat.{suc-add, zero-add}
 use native.Mathlib.Omega.{arith}
 use lib.ListN.{length, getD}
 use Rattle.defs.specs.Field.{add, mul}
@@ -11,22 +10,10 @@ use Rattle.defs.specs.Row.{sum, coefficient}
 use Rattle.defs.specs.Distance.{symbol}
 use Rattle.defs.specs.Pair.{mixed}
 use Rattle.theory.specs.Poly.{h}
-use Rattle.theory.proofs.Field.{ring, add-assoc, 0-add, mul-assoc, mul-comm, one-mul-of-lt}
-use Rattle.theory.proofs.Sum.{sum-ext, sum-add, sum-zero, sum-scale}
+use Rattle.theory.proofs.Field.{ring, mul-assoc, mul-comm, one-mul-of-lt}
+use Rattle.theory.proofs.Sum.{sum-ext, sum-add, sum-scale, sum-split, sum-exchange}
 use Rattle.theory.proofs.Formula.{coefficient-h}
 use Rattle.pair.specs.Equation.{deeper, powerAt, mixedAt, Equation}
-
--- the sum over n + k terms, split
-pub sum-split : (n k : ℕ) (F : ℕ → ℕ) → sum (n + k) F ≡ add (sum n F) (sum k (λ i. F (n + i)))
-unfolding sum
-sum-split zero k F = simp (zero-add, 0-add)
-sum-split (suc n) k F = simp suc-add (ap (add (F 0)) (sum-split n k (λ i. F (suc i))) ∙ sym (add-assoc _ _ _))
-
-sum-exchange : (n k : ℕ) (F : ℕ → ℕ → ℕ) → sum n (λ i. sum k (F i)) ≡ sum k (λ j. sum n (λ i. F i j))
-unfolding sum
-sum-exchange zero k F = sym (sum-zero k _ (λ i l. refl))
-sum-exchange (suc n) k F =
-    ap (add (sum k (F 0))) (sum-exchange n k (λ i. F (suc i))) ∙ sym (sum-add k (F 0) (λ j. sum n (λ i. F (suc i) j)))
 
 module _ (m P : ℕ) where
   pascal-term : (e d c : ℕ) → add (mul m e c) (mul m P (mul m d c)) ≡ mul m (add e (mul m P d)) c

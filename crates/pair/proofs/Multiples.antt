@@ -7,10 +7,10 @@ use native.Mathlib.Nat.{le-antisymm}
 use native.Mathlib.Omega.{arith}
 use lib.ListN.{getD}
 use Rattle.defs.specs.Field.{add, mul}
+use Rattle.theory.proofs.Order.{eq-or-not}
 use Rattle.theory.proofs.Field.{add-lt}
 use Rattle.field.specs.Arithmetic.{Products}
 use Rattle.solve.specs.Table.{stride, Shape}
-use Rattle.solve.proofs.Sums.{eq-or-not}
 use Rattle.pair.specs.Fill.{look, Span, Added}
 use Rattle.pair.proofs.Depths.{span-shape}
 

@@ -16,17 +16,17 @@ use Rattle.defs.specs.Limits.{longest}
 use Rattle.defs.specs.declared.Refusal.the-variants.{TooFar}
 use Rattle.defs.specs.declared.Verdict.the-variants.{Fine, Refused}
 use Rattle.defs.specs.declared.Code.{Code}
+use Rattle.theory.proofs.Order.{lt-or-le, eq-lt}
 use Rattle.theory.proofs.Place.{length-tab, getD-tab}
 use Rattle.code.specs.Checked.{pointsOf, IsCode}
+use Rattle.code.proofs.Known.{code-numbers}
 use Rattle.solve.specs.Table.{stride, at}
 use Rattle.solve.specs.System.{Matrix, dot, Solves, free}
 use Rattle.solve.specs.Answer.{IsFree, IsFull}
-use Rattle.solve.proofs.Sums.{lt-or-le}
-use Rattle.solve.proofs.Free.{eq-lt}
 use Rattle.pair.specs.Fill.{System}
 use Rattle.pair.specs.Found.{IsRow, front₁, Found, found, none}
 use Rattle.pair.proofs.Expand.{Joined, row-mixed}
-use Rattle.pair.proofs.Systems.{code-numbers, chunk-fits}
+use Rattle.pair.proofs.Systems.{chunk-fits}
 
 -- what holds of the elements of a list, and of 0, holds at every index
 each : (P : ℕ → Type 0) (s : List ℕ) → P 0 → ((i : ℕ) → i < length s → P (getD s i 0)) → (i : ℕ) → P (getD s i 0)

@@ -10,8 +10,7 @@ use lib.ListN.{length, getD, set, length-set}
 use lib.Seq.{getD-set-same, getD-set-other}
 use Rattle.defs.specs.Field.{add}
 use Rattle.defs.specs.Place.{Symbols}
-use Rattle.solve.proofs.Sums.{eq-or-not, lt-or-le}
-use Rattle.solve.proofs.Free.{eq-lt}
+use Rattle.theory.proofs.Order.{eq-or-not, lt-or-le, eq-lt}
 use Rattle.pair.specs.Equation.{deeper, powerAt}
 use Rattle.pair.specs.Fill.{Span}
 

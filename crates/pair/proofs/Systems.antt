@@ -5,39 +5,19 @@ use mathlib.Core.Logic.{⊎-elim}
 use mathlib.Core.List.{List}
 use native.Mathlib.Nat.{le-antisymm, suc-mul, add-mul, mul-comm, mul-le-mul-right}
 use native.Mathlib.Omega.{arith}
-use lib.ListN.{length, getD, take, drop, length-take, length-drop, replicate, length-replicate, getD-replicate, List·getD-eq-default}
-use lib.Seq.{getD-take, getD-drop}
+use lib.ListN.{length, getD}
 use lib.Pow.{pow-pos}
 use Rattle.defs.specs.Field.{Width}
 use Rattle.defs.specs.Place.{Symbols}
-use Rattle.defs.specs.declared.Code.{Code}
-use Rattle.theory.specs.Limits.{Numbers}
-use Rattle.theory.proofs.Limits.{inside-known}
-use Rattle.code.specs.Checked.{pointsOf, IsCode}
+use Rattle.theory.proofs.Order.{eq-or-not, lt-or-le, eq-lt}
+use Rattle.code.specs.Chunk.{chunkOf}
+use Rattle.code.proofs.Chunks.{chunk-at, chunk-behind}
 use Rattle.solve.specs.Table.{stride, tableSize, at, Shape}
-use Rattle.solve.proofs.Sums.{eq-or-not, lt-or-le}
-use Rattle.solve.proofs.Free.{eq-lt}
 use Rattle.pair.specs.Equation.{Equation}
 use Rattle.pair.specs.Fill.{look, Chunk, System}
 use Rattle.pair.proofs.Chunks.{mixed-same}
 
-pub code-numbers : {c : Code} → IsCode c → Numbers (c .m) (c .r) (c .k) (c .count)
-code-numbers {c} C = subst (λ (n : ℕ). Numbers (c .m) (c .r) (c .k) n) (C .counted) (inside-known _ _ _ (pointsOf c) (C .inside) .numbers)
-
-pub code-symbols : {c : Code} → IsCode c → Symbols (c .m) (pointsOf c)
-code-symbols {c} C = inside-known _ _ _ (pointsOf c) (C .inside) .symbols
-
-pub code-point : {c : Code} → IsCode c → (i : ℕ) → i < c .count → getD (c .points) i 0 ≡ getD (pointsOf c) i 0
-code-point {c} C i l = sym (getD-take (c .count) (c .points) i 0 l)
-
 -- a table of zeros
-pub getD-zeros : (n k : ℕ) → getD (replicate {A = ℕ} n 0) k 0 ≡ 0
-getD-zeros n k =
-    ⊎-elim
-    (λ l. getD-replicate n k 0 0 l)
-    (λ (l : n ≤ k). List·getD-eq-default (replicate {A = ℕ} n 0) 0 (omega (arith, length-replicate {A = ℕ} n 0)))
-    (lt-or-le k n)
-
 pub zero-shape : {m : ℕ} (t : List ℕ) → Width m → length t ≡ tableSize → ((k : ℕ) → getD t k 0 ≡ 0) → Shape m t
 zero-shape {m} t w n z = record { width = w; size = n; symbols = λ k. eq-lt (z k) (pow-pos m) }
 
@@ -51,20 +31,13 @@ chunk-fits r i n p e l = omega (arith, chunk-end r i n l, mul-comm r n)
 pub chunk-next : (r i p : ℕ) → p ≡ i * r → p + r ≡ (i + 1) * r
 chunk-next r i p e = omega (arith, add-mul i 1 r)
 
--- chunk i as the part of the row w that it is
-module _ (w : List ℕ) (p r : ℕ) where
-  pub part-length : p + r ≤ length w → length (take (p + r - p) (drop p w)) ≡ r
-  part-length l = simp (length-take, length-drop) (omega arith)
-
-  pub part-at : (c : ℕ) → c < r → getD (take (p + r - p) (drop p w)) c 0 ≡ getD w (p + c) 0
-  part-at c l = getD-take (p + r - p) (drop p w) c 0 (omega arith) ∙ getD-drop p w c 0
-
-  pub part-symbols : (m : ℕ) → Symbols m w → Symbols m (take (p + r - p) (drop p w))
-  part-symbols m o c =
-      ⊎-elim
-      (λ l. eq-lt (part-at c l) (o (p + c)))
-      (λ (l : r ≤ c). eq-lt (List·getD-eq-default (take (p + r - p) (drop p w)) 0 (rw (length-take (p + r - p) (drop p w)) (omega arith))) (pow-pos m))
-      (lt-or-le c r)
+-- a chunk that was taken out of the row w
+pub chunk-symbols : (m r p : ℕ) (w : List ℕ) {chunk : List ℕ} → chunk ≡ chunkOf r (λ j. getD w (p + j) 0) → Symbols m w → Symbols m chunk
+chunk-symbols m r p w e o c =
+    ⊎-elim
+    (λ l. eq-lt (ap (λ (s : List ℕ). getD s c 0) e ∙ chunk-at r _ c l) (o (p + c)))
+    (λ l. eq-lt (ap (λ (s : List ℕ). getD s c 0) e ∙ chunk-behind r _ c l) (pow-pos m))
+    (lt-or-le c r)
 
 equation-same : {m s₀ s₁ P P′ : ℕ} {w w′ : ℕ → ℕ} {b j : ℕ} {row row′ : ℕ → ℕ} → P ≡ P′ → ((c : ℕ) → c < b → w c ≡ w′ c)
     → ((c : ℕ) → c < s₀ + s₁ → row′ c ≡ row c) → Equation m s₀ s₁ P w b j row → Equation m s₀ s₁ P′ w′ b j row′
@@ -79,24 +52,22 @@ module _ {m r s₀ s₁ : ℕ} {points w : List ℕ} where
   pub system-none : {t : List ℕ} → Shape m t → System m r s₀ s₁ 0 points w t
   system-none H = record { shape = H; rows = λ i l. absurd (omega arith) }
 
-  pub system-more : {i p P : ℕ} {t t′ : List ℕ} → s₀ + s₁ ≤ stride → p ≡ i * r → P ≡ getD points i 0 → p + r ≤ length w → System m r s₀ s₁ i points w t
-      → Chunk m (length (take (p + r - p) (drop p w))) s₀ s₁ P (look (take (p + r - p) (drop p w))) p (length (take (p + r - p) (drop p w))) t t′
-      → System m r s₀ s₁ (i + 1) points w t′
-  system-more {i} {p} {P} {t} {t′} fits at-p e room S C′ = record {
+  pub system-more : {i p P : ℕ} {t t′ chunk : List ℕ} → s₀ + s₁ ≤ stride → p ≡ i * r → P ≡ getD points i 0 → chunk ≡ chunkOf r (λ j. getD w (p + j) 0)
+      → System m r s₀ s₁ i points w t → Chunk m r s₀ s₁ P (look chunk) p r t t′ → System m r s₀ s₁ (i + 1) points w t′
+  system-more {i} {p} {P} {t} {t′} {chunk} fits at-p e taken S C = record {
     shape = C .shape;
     rows = λ i′ l j h.
         ⊎-elim
-        (λ g.
-        rw g
-        (equation-same e (λ c o. part-at w p r c o ∙ ap (λ (k : ℕ). getD w (k + c) 0) at-p) (λ c o. ap (λ (k : ℕ). at t′ (k + j) c) (sym at-p)) (C .rows j h)))
+        (λ g. rw g (equation-same e (λ c o. symbol-is c o) (λ c o. ap (λ (k : ℕ). at t′ (k + j) c) (sym at-p)) (C .rows j h)))
         (λ g.
         let q : i′ * r + j < p = omega (arith, chunk-end r i′ i (omega arith)) in
         equation-same refl (λ c o. refl) (λ c o. C .before ((i′ * r + j) * stride + c) (omega arith)) (S .rows i′ (omega arith) j h))
         (eq-or-not i′ i);
   }
     where
-      C : Chunk m r s₀ s₁ P (look (take (p + r - p) (drop p w))) p r t t′
-      C = subst (λ (n : ℕ). Chunk m n s₀ s₁ P (look (take (p + r - p) (drop p w))) p n t t′) (part-length w p r room) C′
+      symbol-is : (c : ℕ) → c < r → getD chunk c 0 ≡ getD w (i * r + c) 0
+      symbol-is c l =
+          ap (λ (s : List ℕ). getD s c 0) taken ∙ chunk-at r (λ j. getD w (p + j) 0) c l ∙ ap (λ (k : ℕ). getD w (k + c) 0) at-p
 
   pub system-all : {i n : ℕ} {t : List ℕ} → i ≤ n → n ≤ i → System m r s₀ s₁ i points w t → System m r s₀ s₁ n points w t
   system-all {i} {n} {t} h l S = subst (λ (k : ℕ). System m r s₀ s₁ k points w t) (le-antisymm h l) S

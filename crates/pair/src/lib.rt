@@ -1,6 +1,7 @@
 // The pair of polynomials that meets the equations of a row (formula 9 of the paper), or the proof that there is none.
 // The equations stand in a working table, an unknown to a column: the coefficients of Q0, then those of Q1. Row i * r + j has depth j of chunk i.
 use defs::Code;
+use defs::DEEPEST;
 use defs::LONGEST;
 use defs::Refusal;
 use defs::Verdict;
@@ -13,7 +14,7 @@ ghost use lib.ListN.{length, getD, take};
 ghost use Rattle.defs.specs.Field.{add};
 ghost use Rattle.defs.specs.Place.{tab, Symbols};
 ghost use Rattle.defs.specs.Distance.{radius as radiusOf};
-ghost use Rattle.defs.specs.Limits.{longest};
+ghost use Rattle.defs.specs.Limits.{deepest, longest};
 ghost use Rattle.code.specs.Checked.{pointsOf, IsCode};
 ghost use Rattle.solve.specs.Table.{stride, tableSize, at, Shape};
 ghost use Rattle.solve.specs.System.{free};
@@ -106,23 +107,23 @@ fn add_multiple(t: &mut [u8; TABLE], m: usize, x: u8, to: usize, from: usize, d:
     }
 }
 
-// Writes the equations of a chunk at a point, from row p on.
+// Writes the equations of a chunk of r symbols at a point, from row p on.
 fn write_chunk(
     t: &mut [u8; TABLE],
     m: usize,
     point: u8,
-    chunk: &[u8],
+    chunk: [u8; DEEPEST],
+    r: usize,
     p: usize,
     s0: usize,
     s1: usize,
 )
     requires { ⌜ Shape m (now t) ⌝ }
-    requires { ⌜ Symbols m (now chunk) ⌝ }
-    requires { ⌜ (point < 2 ^ m) × (0 < length (now chunk)) × (p + length (now chunk) ≤ longest) × (s1 ≤ s0) × (s0 + s1 ≤ stride) ⌝ }
+    requires { ⌜ Symbols m chunk ⌝ }
+    requires { ⌜ (point < 2 ^ m) × (0 < r) × (r ≤ deepest) × (p + r ≤ longest) × (s1 ≤ s0) × (s0 + s1 ≤ stride) ⌝ }
     requires { ⌜ ((k : ℕ) → p * stride ≤ k → getD (now t) k 0 ≡ 0) ⌝ }
-    ensures { λ _. ⌜ Chunk m (length (now (chunk .entry))) s0 s1 point (look (now (chunk .entry))) p (length (now (chunk .entry))) (now (t .entry)) (now (t .exit)) ⌝ }
+    ensures { λ _. ⌜ Chunk m r s0 s1 point (look chunk) p r (now (t .entry)) (now (t .exit)) ⌝ }
 {
-    let r = chunk.len();
     let from = p * STRIDE;
     write_depths(t, m, point, from, r, s0);
     let mut b = 0;
@@ -146,9 +147,9 @@ fn write_system(t: &mut [u8; TABLE], code: Code, row: &[u8], s0: usize, s1: usiz
     let mut i = 0;
     let mut p = 0;
     while i < count {
-        let q = p + r;
-        write_chunk(t, m, code.points[i], &row[p..q], p, s0, s1);
-        p = q;
+        let chunk = code::chunk_of(row, p, r);
+        write_chunk(t, m, code.points[i], chunk, r, p, s0, s1);
+        p += r;
         i += 1;
     }
 }

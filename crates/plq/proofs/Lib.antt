@@ -1,3 +1,2 @@
 -- What the proofs of the functions for C rest on.
-pub mod Verdicts
 pub mod Small

@@ -6,14 +6,14 @@ use native.Mathlib.Nat.{mul-le-mul}
 use native.Mathlib.Omega.{arith}
 use lib.Dec.{lit<}
 use lib.ListN.{length}
-use Rattle.defs.specs.Refusal.{number, detail, answer}
+use Rattle.defs.specs.Refusal.{placeOf, number, detail, answer}
 use Rattle.defs.specs.Distance.{radius}
 use Rattle.defs.specs.Limits.{deepest, longest}
 use Rattle.defs.specs.Encode.{encodeVerdict, distanceVerdict, distanceAnswer, Encoded}
 use Rattle.defs.specs.Decode.{Decoded, refused, found, none}
-use Rattle.defs.specs.Slip.{widthIn}
+use Rattle.defs.specs.Slip.{slipSize, widthIn}
 use Rattle.defs.specs.Write.{writeVerdict, Written}
-use Rattle.defs.specs.Read.{readVerdict, reading, Read}
+use Rattle.defs.specs.Read.{reading, Read}
 use Rattle.defs.specs.Line.{lineVerdict, Lined}
 use Rattle.defs.specs.declared.Refusal.{Refusal}
 use Rattle.defs.specs.declared.Verdict.{Verdict}
@@ -21,17 +21,20 @@ use Rattle.defs.specs.declared.Verdict.the-variants.{Fine, Refused}
 use Rattle.defs.specs.declared.Answer.{Answer}
 use Rattle.defs.specs.declared.Answer.the-variants.{Done, Refused as No}
 use Rattle.defs.specs.declared.SlipRead.{SlipRead}
-use Rattle.theory.proofs.Limits.{then-fine, inside-known}
+use Rattle.theory.proofs.Limits.{inside-known}
 use Rattle.theory.proofs.Checks.{decode-known}
 use Rattle.theory.proofs.Distance.{distance-agreement}
 use Rattle.rows.proofs.Outcome.{distance-rows}
 use Rattle.theory.proofs.Width.{width-top}
+use Rattle.theory.proofs.Verdict.{Every, every-fine, every-plain}
+use Rattle.theory.proofs.Refusals.{encode-every, decode-every, write-every, distance-every}
 use Rattle.slip.proofs.Writer.{inside-width, writable, few, size-top}
-use Rattle.slip.proofs.Reader.{Sound, sound, points-few}
+use Rattle.slip.proofs.Reader.{Sound, points-few}
 use Rattle.line.proofs.Lengths.{refusal-small}
 use Rattle.line.proofs.Lines.{line-short}
+use Rattle.slip.proofs.Taken.{read-sound}
+use Rattle.line.proofs.Slips.{read-every}
 use Rattle.plq.specs.Packed.{Narrow}
-use Rattle.plq.proofs.Verdicts.{Small, encode-small, decode-small, write-small, distance-small, read-small, line-small}
 
 pub number-small : (a : Answer) → number a < 2 ^ 8
 number-small (Done d) = lit< tt
@@ -39,27 +42,29 @@ number-small (No x) = omega (arith, refusal-small x)
 
 -- ---- the details
 
-refused-small : (x : Refusal) → Small (Refused x) → detail (No x) < 2 ^ 8
-unfolding answer
-refused-small x s = s .place
+-- a refusal whose place has room in a byte; every call's checks end in such
+abbrev Small : Refusal → Type 0
+Small x = placeOf x < 2 ^ 8
 
-answer-small : (v : Verdict) (d : ℕ) (a : Answer) → a ≡ answer v d → Small v → (v ≡ Fine → d < 2 ^ 16) → detail a < 2 ^ 16
+small : (x : Refusal) → placeOf x < longest → Small x
+small x l = omega arith
+
+answer-small : (v : Verdict) (d : ℕ) (a : Answer) → a ≡ answer v d → Every Small v → (v ≡ Fine → d < 2 ^ 16) → detail a < 2 ^ 16
 unfolding answer
 answer-small Fine d a e s h = rw e (h refl)
-answer-small (Refused x) d a e s h = rw e (omega (arith, refused-small x s))
+answer-small (Refused x) d a e s h = rw e (omega (arith, s .of x refl))
 
 pub encoded-small : {m r k : ℕ} {points message row : List ℕ} {a : Answer} {row′ : List ℕ}
     → Encoded m r k points message row a row′ → detail a < 2 ^ 16
 encoded-small {m} {r} {k} {points} {message} {row} {a} x =
     answer-small (encodeVerdict m r k points message (length row)) 0 a (x .answers)
-    (encode-small m r k points message (length row)) (λ fine. lit< tt)
+    (encode-every small m r k points message (length row)) (λ fine. lit< tt)
 
 pub decoded-small : {m r k : ℕ} {points w message depth : List ℕ} {a : Answer} {message′ depth′ : List ℕ}
     → Decoded m r k points w message depth a message′ depth′ → detail a < 2 ^ 16
 unfolding radius
 decoded-small {m} {r} {k} {points} {w} {message} {depth} (refused x v e _ _) =
-    let s : Small (Refused x) = rw v at (decode-small m r k points w (length message) (length depth)) in
-    rw e (omega (arith, refused-small x s))
+    rw e (omega (arith, decode-every small m r k points w (length message) (length depth) .of x v))
 decoded-small {m} {r} {k} {points} {w} (found f v near e _ _) =
     let inside = decode-known m r k points w _ _ v .0 in
     rw e (omega (arith, near .within, inside-known m r k points inside .numbers .row-top))
@@ -69,7 +74,7 @@ decoded-small (none v far e _ _) = rw e (lit< tt)
 pub distance-detail : (r : ℕ) (u w : List ℕ) (a : Answer) → a ≡ distanceAnswer r u w → detail a < 2 ^ 16
 unfolding distanceAnswer
 distance-detail r u w a e =
-    answer-small (distanceVerdict r (length u) (length w)) _ a e (distance-small r (length u) (length w))
+    answer-small (distanceVerdict r (length u) (length w)) _ a e (distance-every small r (length u) (length w))
     (λ fine. let rows = distance-rows r u w fine in
     omega (
       arith,
@@ -79,10 +84,15 @@ distance-detail r u w a e =
 
 pub written-small : {m r k : ℕ} {points w bytes : List ℕ} {a : Answer} {bytes′ : List ℕ}
     → Written m r k points w bytes a bytes′ → detail a < 2 ^ 16
+unfolding slipSize
 written-small {m} {r} {k} {points} {w} {bytes} {a} x =
-    answer-small (writeVerdict m r k points w (length bytes)) _ a (x .answers) (write-small m r k points w (length bytes))
+    answer-small (writeVerdict m r k points w (length bytes)) _ a (x .answers) (write-every small m r k points w (length bytes))
     (λ fine. let y = writable m r k points w _ fine in
     omega (arith, size-top m (length points + length w) (inside-width m r k points (y .inside)) (few m r k points w (y .inside) (y .row))))
+
+line-small : (text : List ℕ) (size : ℕ) → Every Small (lineVerdict text size)
+unfolding lineVerdict
+line-small text size = every-plain _ _ _ (lit< tt) every-fine
 
 pub lined-small : {bytes buffer : List ℕ} {a : Answer} {buffer′ : List ℕ} → Lined bytes buffer a buffer′ → detail a < 2 ^ 16
 lined-small {bytes} {buffer} {a} x =
@@ -91,11 +101,7 @@ lined-small {bytes} {buffer} {a} x =
 
 -- ---- the reader
 
-read-sound : (bytes : List ℕ) (count n : ℕ) → readVerdict bytes count n ≡ Fine → Sound bytes
-unfolding readVerdict
-read-sound bytes count n e = sound bytes (then-fine _ _ e .0)
-
-reading-narrow : (v : Verdict) (bytes : List ℕ) → Small v → (v ≡ Fine → Sound bytes) → Narrow (reading v bytes)
+reading-narrow : (v : Verdict) (bytes : List ℕ) → Every Small v → (v ≡ Fine → Sound bytes) → Narrow (reading v bytes)
 unfolding reading
 reading-narrow Fine bytes s h =
     let x = h refl in
@@ -111,9 +117,9 @@ reading-narrow (Refused y) bytes s h = record {
   r-fits = lit< tt;
   count-fits = lit< tt;
   k-fits = lit< tt;
-  detail-fits = refused-small y s;
+  detail-fits = s .of y refl;
 }
 
 pub read-narrow : {bytes points row : List ℕ} {s : SlipRead} {points′ row′ : List ℕ} → Read bytes points row s points′ row′ → Narrow s
 read-narrow {bytes} {points} {row} x =
-    rw (x .answers) (reading-narrow _ bytes (read-small bytes (length points) (length row)) (read-sound bytes _ _))
+    rw (x .answers) (reading-narrow _ bytes (read-every (λ y r. small y) bytes (length points) (length row)) (read-sound bytes _ _))

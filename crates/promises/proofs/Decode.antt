@@ -1,6 +1,6 @@
 -- Decode: one outcome for every input, done exactly where a message is near, damage within the radius repaired, a refusal changes nothing.
 use Prim.Native.Nat.{ℕ, _+_, _*_, _-_, _/_, _≤_}
-use mathlib.Core.Path.{_≡_, refl}
+use mathlib.Core.Path.{_≡_, refl, sym, _∙_}
 use mathlib.Core.List.{List}
 use native.Mathlib.Omega.{arith}
 use lib.ListN.{length}
@@ -10,6 +10,7 @@ use Rattle.defs.specs.Distance.{depths, distance, reach, Near}
 use Rattle.defs.specs.Limits.{Inside}
 use Rattle.defs.specs.Encode.{Encoded}
 use Rattle.defs.specs.Decode.{decodeVerdict, Decoded, refused, found, none}
+use Rattle.defs.specs.Line.{lineOf}
 use Rattle.defs.specs.declared.Refusal.{Refusal}
 use Rattle.defs.specs.declared.Refusal.the-variants.{TooFar}
 use Rattle.defs.specs.declared.Verdict.the-variants.{Fine}
@@ -18,10 +19,11 @@ use Rattle.defs.specs.declared.Answer.the-variants.{Done, Refused as No}
 use Rattle.theory.specs.Demand3.{damagedChunks}
 use Rattle.theory.proofs.Demand3.{near-unique, chunks-near}
 use Rattle.theory.proofs.Checks.{decode-known, decode-fine}
+use Rattle.theory.proofs.Verdict.{apart}
 use Rattle.promises.proofs.Encode.{done-encode, encode-done}
 
 refused-done : (a : Answer) (d : ℕ) (x : Refusal) → a ≡ Done d → a ≡ No x → ⊥
-refused-done a d x e e′ = let z : _≡_ {A = ℕ} 0 1 = cc in omega arith
+refused-done a d x e e′ = apart cc
 
 module _ (m r k : ℕ) (points w message depth : List ℕ) where
   abbrev Outcome : Answer → List ℕ → List ℕ → Type 0
@@ -62,6 +64,24 @@ module _ (m r k : ℕ) (points w message depth : List ℕ) where
     done-decode d e (refused y v p q h) = absurd (refused-done a d y e p)
     done-decode d e (found f v n p q h) = (v, (f, n))
     done-decode d e (none v n p q h) = absurd (refused-done a d TooFar e p)
+
+-- what the buffers held shows nowhere but in themselves
+module _ (m r k : ℕ) (points w : List ℕ) {message depth message₂ depth₂ : List ℕ} where
+  any-buffers : length message ≡ length message₂ → length depth ≡ length depth₂ → {a : Answer} {s t : List ℕ}
+      → Decoded m r k points w message depth a s t
+      → (s₂ : List ℕ) × (t₂ : List ℕ) × Decoded m r k points w message₂ depth₂ a s₂ t₂ × (lineOf a s₂ t₂ ≡ lineOf a s t)
+  unfolding lineOf
+  any-buffers p q (refused x v e _ _) = (message₂, depth₂, refused x (rw (p, q) at v) e refl refl, rw e)
+  any-buffers p q (found f v near e e₁ e₂) = (f, depths r (length points) (rowOf m r points f) w, found f (rw (p, q) at v) near e refl refl, rw (e₁, e₂))
+  any-buffers p q (none v far e _ _) = (message₂, depth₂, none (rw (p, q) at v) far e refl refl, rw e)
+
+  -- so the line of a row is one
+  pub decode-same-line : length message ≡ length message₂ → length depth ≡ length depth₂ → {a b : Answer} {s t u x : List ℕ}
+      → Decoded m r k points w message depth a s t → Decoded m r k points w message₂ depth₂ b u x → lineOf a s t ≡ lineOf b u x
+  decode-same-line p q {a} {b} {s} {t} {u} {x} d d′ =
+      let y = any-buffers p q d in
+      let e = decode-same m r k points w message₂ depth₂ a b (y .0) (y .1) u x (y .2) d′ in
+      sym (y .3) ∙ cc (e .0, e .1, e .2)
 
 -- encode's row, damaged, is decoded
 module _ (m r k : ℕ) (points f buffer : List ℕ) (d : ℕ) (row : List ℕ) (sent : Encoded m r k points f buffer (Done d) row)

@@ -1,31 +1,17 @@
 -- Encode and distance: one outcome for every input, done exactly inside the limits, and a refusal changes nothing.
 use Prim.Native.Nat.{ℕ, _*_}
-use mathlib.Core.Path.{_≡_, refl, sym, _∙_}
+use mathlib.Core.Path.{_≡_, sym, _∙_}
 use mathlib.Core.List.{List}
-use native.Mathlib.Omega.{arith}
 use lib.ListN.{length}
 use Rattle.defs.specs.Row.{Message, rowOf}
 use Rattle.defs.specs.Refusal.{answer, kept}
 use Rattle.defs.specs.Limits.{Inside}
 use Rattle.defs.specs.Encode.{Encoded, distanceAnswer}
 use Rattle.defs.specs.declared.Refusal.{Refusal}
-use Rattle.defs.specs.declared.Verdict.{Verdict}
-use Rattle.defs.specs.declared.Verdict.the-variants.{Fine, Refused}
 use Rattle.defs.specs.declared.Answer.{Answer}
 use Rattle.defs.specs.declared.Answer.the-variants.{Done, Refused as No}
 use Rattle.theory.proofs.Checks.{encode-known, encode-fine}
-
--- a done call passed its checks
-pub answer-done : (v : Verdict) (d d′ : ℕ) → answer v d ≡ Done d′ → v ≡ Fine
-unfolding answer
-answer-done Fine d d′ e = refl
-answer-done (Refused x) d d′ e = let z : _≡_ {A = ℕ} 0 1 = cc in absurd (omega arith)
-
--- and a refused one leaves a buffer as it was
-pub kept-refused : (v : Verdict) (d : ℕ) (x : Refusal) (new old : List ℕ) → answer v d ≡ No x → kept v new old ≡ old
-unfolding answer kept
-kept-refused Fine d x new old e = let z : _≡_ {A = ℕ} 0 1 = cc in absurd (omega arith)
-kept-refused (Refused y) d x new old e = refl
+use Rattle.theory.proofs.Verdict.{answer-done, kept-refused}
 
 module _ (m r k : ℕ) (points f row : List ℕ) where
   pub encode-same : (a b : Answer) (s t : List ℕ) → Encoded m r k points f row a s → Encoded m r k points f row b t → (a ≡ b) × (s ≡ t)

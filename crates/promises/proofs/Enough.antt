@@ -1,5 +1,5 @@
--- The first 260 bytes decide how a slip is read: what is longer is refused, and by the same number.
-use Prim.Native.Nat.{ℕ, _+_, _*_, _≤_}
+-- A byte more than the longest slip has decides how a slip is read: what is longer is refused, and by the same number.
+use Prim.Native.Nat.{ℕ, _+_, _*_, _<_, _≤_}
 use mathlib.Core.Bool.{Bool, true, false, not}
 use mathlib.Core.Path.{_≡_, refl, ap, sym, _∙_}
 use mathlib.Core.List.{List, [], _∷_, _++_, append-assoc}
@@ -11,14 +11,18 @@ use lib.Seq.{length-take-le}
 use borrow.Author.Tests.{lt-ltb, le-ltb}
 use Rattle.defs.specs.Refusal.{refuse, andThen}
 use Rattle.defs.specs.Limits.{numbersVerdict}
-use Rattle.defs.specs.Slip.{allBits, numberAt, editionIn, widthIn, depthIn, countIn, dimensionIn, sizeIn}
+use Rattle.defs.specs.Slip.{allBits, numberAt, slipSize, longestSlip, editionIn, widthIn, depthIn, countIn, dimensionIn, sizeIn}
 use Rattle.defs.specs.Read.{headVerdict, readVerdict}
 use Rattle.defs.specs.declared.Refusal.the-variants.{SlipShort, Edition, SlipLong}
 use Rattle.defs.specs.declared.Verdict.{Verdict}
 use Rattle.defs.specs.declared.Verdict.the-variants.{Fine, Refused}
-use Rattle.theory.proofs.Limits.{refuse-fine, then-fine, numbers-known, count-small}
+use Rattle.theory.proofs.Limits.{numbers-known, count-small}
+use Rattle.theory.proofs.Verdict.{apart, refuse-fine, then-fine}
 use Rattle.slip.proofs.Bits.{length-bits, number-front}
 use Rattle.slip.proofs.Writer.{size-top}
+
+abbrev pub enoughBytes : ℕ
+enoughBytes = longestSlip + 1
 
 length-all-bits : (w : ℕ) (s : List ℕ) → length (allBits w s) ≡ w * length s
 unfolding allBits
@@ -30,22 +34,22 @@ unfolding allBits
 all-bits-append w [] t = refl
 all-bits-append w (x ∷ s) t = rw (all-bits-append w s t, append-assoc)
 
--- what bytes of at least 260 are refused by: 11, 1, 3, 4, 12
+-- what bytes beyond the longest slip are refused by: 11, 1, 3, 4, 12
 longVerdict : ℕ → ℕ → ℕ → ℕ → ℕ → Verdict
 longVerdict edition m r k count = refuse (not (eqb edition 1)) Edition (andThen (numbersVerdict m r k count) (Refused SlipLong))
 
-module _ (bytes : List ℕ) (long : 260 ≤ length bytes) where
+module _ (bytes : List ℕ) (long : longestSlip < length bytes) where
   by-numbers : (v : Verdict) → numbersVerdict (widthIn bytes) (depthIn bytes) (dimensionIn bytes) (countIn bytes) ≡ v
       → andThen v (refuse (ltb (length bytes) (sizeIn bytes)) SlipShort (refuse (ltb (sizeIn bytes) (length bytes)) SlipLong Fine)) ≡ andThen v (Refused SlipLong)
   unfolding andThen refuse sizeIn
   by-numbers (Refused x) e = refl
   by-numbers Fine e =
       let n = numbers-known _ _ _ _ e in
-      let top : sizeIn bytes ≤ 259 = size-top (widthIn bytes) (countIn bytes + depthIn bytes * countIn bytes) (n .width) (omega (arith, count-small n, n .row-top)) in
+      let top : sizeIn bytes ≤ longestSlip = size-top (widthIn bytes) (countIn bytes + depthIn bytes * countIn bytes) (n .width) (omega (arith, count-small n, n .row-top)) in
       rw (le-ltb (length bytes) (sizeIn bytes) (omega arith), lt-ltb (sizeIn bytes) (length bytes) (omega arith))
 
   head-long : headVerdict bytes ≡ longVerdict (editionIn bytes) (widthIn bytes) (depthIn bytes) (dimensionIn bytes) (countIn bytes)
-  unfolding headVerdict longVerdict refuse
+  unfolding headVerdict longVerdict refuse slipSize
   head-long = rw (le-ltb (length bytes) 3 (omega arith), by-numbers _ refl)
 
 never-fine : (b : Bool) (v v′ : Verdict) → andThen (refuse b Edition (andThen v (Refused SlipLong))) v′ ≡ refuse b Edition (andThen v (Refused SlipLong))
@@ -54,30 +58,31 @@ never-fine true v v′ = refl
 never-fine false Fine v′ = refl
 never-fine false (Refused x) v′ = refl
 
-read-long : (bytes : List ℕ) → 260 ≤ length bytes → (count n : ℕ)
+read-long : (bytes : List ℕ) → longestSlip < length bytes → (count n : ℕ)
     → readVerdict bytes count n ≡ longVerdict (editionIn bytes) (widthIn bytes) (depthIn bytes) (dimensionIn bytes) (countIn bytes)
 unfolding readVerdict longVerdict
 read-long bytes long count n = rw (head-long bytes long) (never-fine _ _ _)
 
-field-kept : (bytes : List ℕ) → 260 ≤ length bytes → (v p : ℕ) → p + v ≤ 24 → numberAt v p (allBits 8 (take 260 bytes)) ≡ numberAt v p (allBits 8 bytes)
+field-kept : (bytes : List ℕ) → longestSlip < length bytes → (v p : ℕ) → p + v ≤ 24 → numberAt v p (allBits 8 (take enoughBytes bytes)) ≡ numberAt v p (allBits 8 bytes)
+unfolding slipSize
 field-kept bytes long v p l =
     sym
-    (ap (λ (s : List ℕ). numberAt v p (allBits 8 s)) (sym (take-append-drop 260 bytes))
-    ∙ rw (all-bits-append 8 (take 260 bytes) (drop 260 bytes))
-    (number-front v p (allBits 8 (take 260 bytes)) (allBits 8 (drop 260 bytes)) (omega (arith, length-all-bits 8 (take 260 bytes), length-take-le 260 bytes long))))
+    (ap (λ (s : List ℕ). numberAt v p (allBits 8 s)) (sym (take-append-drop enoughBytes bytes))
+    ∙ rw (all-bits-append 8 (take enoughBytes bytes) (drop enoughBytes bytes))
+    (number-front v p (allBits 8 (take enoughBytes bytes)) (allBits 8 (drop enoughBytes bytes)) (omega (arith, length-all-bits 8 (take enoughBytes bytes), length-take-le enoughBytes bytes (omega arith)))))
 
--- THE FIRST 260 BYTES DECIDE
-pub enough : (bytes : List ℕ) → 260 ≤ length bytes → (count n : ℕ) → readVerdict (take 260 bytes) count n ≡ readVerdict bytes count n
+-- THE FIRST 260 BYTES DECIDE: 259, and one more to tell that there is more
+pub enough : (bytes : List ℕ) → longestSlip < length bytes → (count n : ℕ) → readVerdict (take enoughBytes bytes) count n ≡ readVerdict bytes count n
 unfolding editionIn widthIn depthIn countIn dimensionIn
 enough bytes long count n =
-    let first : 260 ≤ length (take 260 bytes) = omega (arith, length-take-le 260 bytes long) in
+    let first : longestSlip < length (take enoughBytes bytes) = omega (arith, length-take-le enoughBytes bytes (omega arith)) in
     let keeps = field-kept bytes long in
-    rw (read-long (take 260 bytes) first count n, read-long bytes long count n)
+    rw (read-long (take enoughBytes bytes) first count n, read-long bytes long count n)
     (rw (keeps 4 0 (omega arith), keeps 2 4 (omega arith), keeps 3 6 (omega arith), keeps 7 9 (omega arith), keeps 7 16 (omega arith)))
 
-pub long-refused : (bytes : List ℕ) → 260 ≤ length bytes → (count n : ℕ) → readVerdict bytes count n ≡ Fine → ⊥
+pub long-refused : (bytes : List ℕ) → longestSlip < length bytes → (count n : ℕ) → readVerdict bytes count n ≡ Fine → ⊥
 unfolding longVerdict
 long-refused bytes long count n e = refused _ _ (sym (read-long bytes long count n) ∙ e)
   where
     refused : (b : Bool) (v : Verdict) → refuse b Edition (andThen v (Refused SlipLong)) ≡ Fine → ⊥
-    refused b v q = let z : _≡_ {A = ℕ} 0 1 = cc (then-fine v (Refused SlipLong) (refuse-fine b Edition (andThen v (Refused SlipLong)) q .1) .1) in omega arith
+    refused b v q = apart (cc (then-fine v (Refused SlipLong) (refuse-fine b Edition (andThen v (Refused SlipLong)) q .1) .1))

@@ -1,6 +1,8 @@
 -- The promises.
 pub mod Encode
 pub mod Decode
+pub mod Write
+pub mod Taken
 pub mod RoundTrip
 pub mod Slip
 pub mod Enough

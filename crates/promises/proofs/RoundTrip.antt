@@ -4,28 +4,28 @@ use mathlib.Core.Path.{_≡_, refl, ap, sym, _∙_}
 use mathlib.Core.List.{List, _++_}
 use native.Mathlib.Nat.{mul-suc, mul-comm, mul-le-mul-left, mod-eq-of-lt, zero-add}
 use native.Mathlib.Omega.{arith}
-use lib.ListN.{length, getD, take, drop, List·getD-append}
-use lib.Seq.{getD-append-add, take-at}
+use lib.ListN.{length, getD, take, List·getD-append}
+use lib.Seq.{getD-append-add}
 use borrow.Author.Tests.{ltb-false}
 use Rattle.defs.specs.Place.{Symbols}
 use Rattle.defs.specs.Refusal.{answer, kept}
 use Rattle.defs.specs.Limits.{numbersVerdict, firstTwice, codeVerdict, Inside}
-use Rattle.defs.specs.Slip.{allBits, numberAt, headerBits, slipSize, slipBits, slipOf, editionIn, widthIn, depthIn, countIn, dimensionIn, symbolsIn, pointsIn, rowIn}
+use Rattle.defs.specs.Slip.{allBits, numberAt, slipSize, slipBits, slipOf, editionIn, widthIn, depthIn, countIn, dimensionIn, symbolsIn, pointsIn, rowIn}
 use Rattle.defs.specs.Write.{front, writeVerdict, Written}
 use Rattle.defs.specs.Read.{headVerdict, readVerdict, Read}
-use Rattle.defs.specs.declared.Verdict.{Verdict}
-use Rattle.defs.specs.declared.Verdict.the-variants.{Fine, Refused}
+use Rattle.defs.specs.declared.Verdict.the-variants.{Fine}
 use Rattle.defs.specs.declared.Answer.the-variants.{Done}
 use Rattle.defs.specs.declared.SlipRead.{SlipRead}
 use Rattle.theory.proofs.Place.{length-tab, tab-same, tab-getD}
-use Rattle.theory.proofs.Limits.{refuse-fine, then-fine}
+use Rattle.theory.proofs.Verdict.{refuse-fine, then-fine, answer-done}
 use Rattle.slip.specs.declared.Head.{Head}
-use Rattle.slip.specs.Head.{Fitting, Heads}
+use Rattle.slip.specs.Head.{headerBits, Fitting, Heads}
 use Rattle.slip.proofs.Bits.{number-symbol}
 use Rattle.slip.proofs.HeaderBits.{header-edition, header-width, header-depth, header-count, header-dimension}
 use Rattle.slip.proofs.Packed.{number-back, slip-bits-are, in-header, behind-header}
 use Rattle.slip.proofs.Writer.{inside-width, inside-fits, inside-symbols, writable}
-use Rattle.slip.proofs.Reader.{head-fine, row-size, read-fine, reading-done}
+use Rattle.slip.proofs.Front.{take-front}
+use Rattle.slip.proofs.Reader.{Opened, head-size, size-right, Searched, read-fine, reading-done}
 
 module _ (m r k : ℕ) (points w : List ℕ) where
   pub length-slip : length (slipOf m r k points w) ≡ slipSize m (length points + length w)
@@ -33,7 +33,7 @@ module _ (m r k : ℕ) (points w : List ℕ) where
   length-slip = length-tab _ _
 
   module _ (e : Inside m r k points) (h : Symbols m w) where
-    fits : Fitting m r k (length points)
+    fits : Fitting r k (length points)
     fits = inside-fits m r k points e
 
     -- a field of the header, and a symbol behind it
@@ -100,14 +100,15 @@ module _ (m r k : ℕ) (points w : List ℕ) where
       unfolding head slipSize
       head-back =
           let size : length (slipOf m r k points w) ≡ slipSize m (length points + r * length points) = length-slip ∙ ap (λ (x : ℕ). slipSize m (length points + x)) n in
-          sym (head-fine (slipOf m r k points w) (omega (arith, size)) head heads-back refl numbers-fine _ refl (omega (arith, size)) (omega (arith, size)))
+          let opened : Opened (slipOf m r k points w) head = record { long = omega (arith, size); heads = heads-back; edition = refl } in
+          sym (head-size _ head opened numbers-fine _ refl Fine (size-right (length (slipOf m r k points w)) (slipSize m (length points + r * length points)) (omega (arith, size)) (omega (arith, size))))
 
       verdict-back : (points₀ row₀ : List ℕ) → length points ≤ length points₀ → length w ≤ length row₀
           → readVerdict (slipOf m r k points w) (length points₀) (length row₀) ≡ Fine
       unfolding head
       verdict-back points₀ row₀ a b =
-          read-fine (slipOf m r k points w) points₀ row₀ head-back (length points) (length w) (firstTwice points)
-          (heads-back .count-is) (n ∙ row-size (slipOf m r k points w) head heads-back) (rw points-back) points-once a b
+          let searched : Searched (slipOf m r k points w) head (firstTwice points) = record { fine = head-back; heads = heads-back; twice-is = rw points-back } in
+          read-fine (slipOf m r k points w) points₀ row₀ head _ searched points-once a (omega (arith, n))
 
       -- a slip is read as what it was made of
       pub slip-read-back : (points₀ row₀ : List ℕ) → length points ≤ length points₀ → length w ≤ length row₀
@@ -121,23 +122,18 @@ module _ (m r k : ℕ) (points w : List ℕ) where
             rw (v, row-back) at (t .leaves-row),
           )
 
-done-fine : (v : Verdict) (n d : ℕ) → Done d ≡ answer v n → v ≡ Fine
-unfolding answer
-done-fine Fine n d e = refl
-done-fine (Refused x) n d e = let z : _≡_ {A = ℕ} 0 1 = cc in absurd (omega arith)
-
 -- what a writer that is done has written
 module _ (m r k d : ℕ) (points w bytes bytes′ : List ℕ) (t : Written m r k points w bytes (Done d) bytes′) where
   taken : writeVerdict m r k points w (length bytes) ≡ Fine
-  taken = done-fine (writeVerdict m r k points w (length bytes)) _ d (t .answers)
+  taken = answer-done (writeVerdict m r k points w (length bytes)) _ d (sym (t .answers))
 
   pub wrote : take d bytes′ ≡ slipOf m r k points w
-  unfolding answer kept front
+  unfolding answer kept
   wrote =
       let a : Done d ≡ Done (slipSize m (length points + length w)) = rw taken at (t .answers) in
       let e : length (slipOf m r k points w) ≡ d = length-slip m r k points w ∙ cc in
-      let b : bytes′ ≡ slipOf m r k points w ++ drop (length (slipOf m r k points w)) bytes = rw taken at (t .leaves) in
-      ap (take d) b ∙ take-at (slipOf m r k points w) (drop (length (slipOf m r k points w)) bytes) d e
+      let b : bytes′ ≡ front (slipOf m r k points w) bytes = rw taken at (t .leaves) in
+      ap (take d) b ∙ take-front (slipOf m r k points w) bytes d e
 
   -- WRITE, THEN READ: whatever the writer left, if it was done, and whatever the reader then answers, the code and the row are the same
   pub round-trip : (points₀ row₀ : List ℕ) → length points ≤ length points₀ → length w ≤ length row₀

@@ -1,10 +1,10 @@
 -- A slip worked by hand: the row of example 16 of the paper in six bytes.
 use mathlib.Core.Path.{_≡_, refl}
 use mathlib.Core.List.{[], _∷_}
-use Rattle.defs.specs.Place.{tab}
-use Rattle.defs.specs.Slip.{bits, allBits, numberAt, headerBits, slipSize, slipBits, slipOf}
+use Rattle.defs.specs.Place.{least, tab}
+use Rattle.defs.specs.Slip.{bits, allBits, numberAt, widthOf, fieldCode, slipBits, slipSize, slipOf}
 
 -- points 0 1 2 3, r 2, k 4, row 1 3 0 3 2 3 2 0: the bytes 10 83 06 1B 73 B8
 pub worked-slip : slipOf 2 2 4 (0 ∷ 1 ∷ 2 ∷ 3 ∷ []) (1 ∷ 3 ∷ 0 ∷ 3 ∷ 2 ∷ 3 ∷ 2 ∷ 0 ∷ []) ≡ 0x10 ∷ 0x83 ∷ 0x06 ∷ 0x1b ∷ 0x73 ∷ 0xb8 ∷ []
-unfolding tab bits allBits numberAt headerBits slipSize slipBits slipOf
+unfolding least tab bits allBits numberAt widthOf fieldCode slipBits slipSize slipOf
 worked-slip = refl

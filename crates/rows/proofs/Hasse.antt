@@ -18,8 +18,9 @@ use Rattle.theory.proofs.Formula.{coefficient-h}
 use Rattle.theory.proofs.Generator.{one-lt, order}
 use Rattle.theory.proofs.Width.{field-top}
 use Rattle.rows.specs.Tables.{places}
-use Rattle.rows.specs.Chunk.{chunkOf, Coefficient, Evaluable}
-use Rattle.rows.proofs.Chunks.{chunk-same}
+use Rattle.code.specs.Chunk.{chunkOf}
+use Rattle.rows.specs.Chunk.{Coefficient, Evaluable}
+use Rattle.code.proofs.Chunks.{chunk-same}
 use Rattle.rows.proofs.Lookup.{reach, look-up}
 
 -- the term of formula (2) at the power j + x

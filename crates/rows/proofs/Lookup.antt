@@ -2,37 +2,34 @@
 use Prim.Native.Nat.{ℕ, _+_, _*_, _-_, _^_, _<_, _≤_}
 use mathlib.Core.Path.{_≡_, refl, ap, sym, subst, _∙_}
 use mathlib.Core.Logic.{inl, inr}
-use mathlib.Core.List.{List, _++_}
+use mathlib.Core.List.{List}
 use native.Nat.{ℕᴺ-discrete}
-use native.Mathlib.Nat.{add-sub-of-le, lt-of-lt-of-le}
+use native.Mathlib.Nat.{lt-of-lt-of-le}
 use native.Mathlib.Numerals.{add-one}
 use native.Mathlib.Omega.{arith}
-use lib.ListN.{length, getD, set, drop, replicate, length-set, length-replicate, List·getD-append}
-use lib.Seq.{getD-append-add, getD-drop, getD-set-same, getD-set-other}
+use lib.ListN.{length, getD, set, replicate, length-set, length-replicate}
+use lib.Seq.{getD-set-same, getD-set-other}
 use Rattle.defs.specs.Field.{Width, mul, times2, pow}
-use Rattle.defs.specs.Place.{tab, Symbols}
+use Rattle.defs.specs.Place.{Symbols}
 use Rattle.defs.specs.Limits.{longest}
 use Rattle.theory.specs.Fill.{filled}
 use Rattle.theory.proofs.Field.{pow-lt, pow-add, two-mul, 0-mul}
-use Rattle.theory.proofs.Place.{length-tab, getD-tab, zeros-zero}
+use Rattle.theory.proofs.Place.{zeros-zero}
 use Rattle.theory.proofs.Fill.{filled-none, filled-next, filled-front}
 use Rattle.theory.proofs.Generator.{one-lt, generates, inverse-power}
 use Rattle.field.specs.Arithmetic.{Logarithm, Element}
 use Rattle.code.specs.Checked.{zeros}
 use Rattle.code.proofs.Outcome.{length-zeros}
 use Rattle.theory.proofs.Width.{field-top}
+use Rattle.code.proofs.Chunks.{new-front, old-behind}
 use Rattle.rows.specs.Tables.{nowhere, places, LogOf, PowersOf, LogsFor, LogsOf}
 
 -- what stands in a list whose front has been filled
 filled-new : (d : List ℕ) (F : ℕ → ℕ) (n i : ℕ) → i < n → getD (filled d 0 F n) i 0 ≡ F i
-filled-new d F n i l =
-    ap (λ (s : List ℕ). getD s i 0) (filled-front d F n) ∙ List·getD-append (tab F n) (drop n d) 0 i (omega (arith, length-tab F n)) ∙ getD-tab F n i l
+filled-new d F n i l = ap (λ (s : List ℕ). getD s i 0) (filled-front d F n) ∙ new-front d F n i l
 
 filled-old : (d : List ℕ) (F : ℕ → ℕ) (n i : ℕ) → n ≤ i → getD (filled d 0 F n) i 0 ≡ getD d i 0
-filled-old d F n i l =
-    let e : i ≡ length (tab F n) + (i - n) = omega (arith, length-tab F n) in
-    ap (λ (s : List ℕ). getD s i 0) (filled-front d F n) ∙ ap (λ (x : ℕ). getD (tab F n ++ drop n d) x 0) e
-    ∙ getD-append-add (tab F n) (drop n d) (i - n) 0 ∙ getD-drop n d (i - n) 0 ∙ ap (λ (x : ℕ). getD d x 0) (add-sub-of-le l)
+filled-old d F n i l = ap (λ (s : List ℕ). getD s i 0) (filled-front d F n) ∙ old-behind d F n i l
 
 -- ---- powers
 

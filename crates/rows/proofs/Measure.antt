@@ -9,8 +9,9 @@ use lib.ListN.{length, getD}
 use Rattle.defs.specs.Place.{total}
 use Rattle.defs.specs.Distance.{agree, agreeAt, damage, distance}
 use Rattle.theory.proofs.Agree.{agree-ext}
-use Rattle.rows.specs.Chunk.{chunkOf, Chunks, Rows}
-use Rattle.rows.proofs.Chunks.{chunk-at}
+use Rattle.code.specs.Chunk.{chunkOf}
+use Rattle.rows.specs.Chunk.{Chunks, Rows}
+use Rattle.code.proofs.Chunks.{chunk-at}
 
 -- chunk i ends within a row of count chunks
 pub chunk-within : (r i count n : ℕ) → i < count → count * r ≤ n → i * r + r ≤ n
@@ -32,9 +33,9 @@ module _ (r : ℕ) (u w : List ℕ) where
       ap (λ (n : ℕ). r - n)
       (g ∙ agree-ext r _ _ _ _ (λ j l. ap (λ (c : List ℕ). getD c j 0) e ∙ chunk-at r _ j l) (λ j l. ap (λ (c : List ℕ). getD c j 0) f ∙ chunk-at r _ j l))
 
-  pub damage-le : (i : ℕ) → damage r u w i ≤ r
+  pub damage-top : (i d : ℕ) → d ≡ damage r u w i → d ≤ r
   unfolding damage
-  damage-le i = omega arith
+  damage-top i d e = omega (arith, e)
 
   pub distance-none : 0 ≡ distance r 0 u w
   unfolding distance total

@@ -19,7 +19,7 @@ use Rattle.defs.specs.declared.Verdict.the-variants.{Fine, Refused}
 use Rattle.defs.specs.declared.Answer.the-variants.{Done, Refused as No}
 use Rattle.defs.specs.declared.Code.{Code}
 use Rattle.theory.proofs.Place.{none-high}
-use Rattle.theory.proofs.Limits.{refuse-fine, or-false}
+use Rattle.theory.proofs.Verdict.{or-false, refuse-fine}
 use Rattle.code.specs.Checked.{pointsOf}
 use Rattle.code.proofs.Outcome.{Passed}
 use Rattle.rows.specs.Chunk.{Rows, Writable}

@@ -1,31 +1,28 @@
 -- A row that is written chunk after chunk.
-use Prim.Native.Nat.{ℕ, _+_, _*_, _<_, _≤_}
+use Prim.Native.Nat.{ℕ, _+_, _*_, _^_, _<_, _≤_}
 use mathlib.Core.Path.{_≡_, refl, ap, sym, subst, _∙_}
 use mathlib.Core.List.{List, _++_, append-nil}
 use native.Mathlib.Nat.{mul-zero, mul-suc, mul-le-mul-left}
 use native.Mathlib.Numerals.{add-one}
 use native.Mathlib.Omega.{arith}
 use lib.ListN.{length, getD, take, drop, drop-of-length-le}
-use lib.Seq.{length-take-le, take-all, take-at, drop-append-add, drop-drop, getD-take}
-use Rattle.defs.specs.Field.{Width}
+use lib.Seq.{length-take-le, take-all, take-at, drop-append-add, drop-drop}
 use Rattle.defs.specs.Place.{tab}
 use Rattle.defs.specs.Row.{coefficient, rowOf}
-use Rattle.defs.specs.Limits.{deepest, longest}
+use Rattle.defs.specs.Limits.{longest}
 use Rattle.defs.specs.declared.Code.{Code}
 use Rattle.theory.specs.Fill.{filled}
-use Rattle.theory.specs.Limits.{Limits}
+use Rattle.theory.specs.Limits.{Numbers}
 use Rattle.theory.proofs.Place.{tab-same}
 use Rattle.theory.proofs.Row.{length-row, row-step}
 use Rattle.theory.proofs.Fill.{length-filled}
-use Rattle.theory.proofs.Limits.{inside-known, count-small}
 use Rattle.field.specs.Arithmetic.{Parities}
 use Rattle.code.specs.Checked.{pointsOf}
+use Rattle.code.proofs.Known.{code-numbers, code-symbols, code-point}
 use Rattle.rows.specs.Tables.{PowersOf, LogsFor, LogsOf}
-use Rattle.rows.specs.Chunk.{chunkOf, Evaluable, Writable}
-use Rattle.rows.proofs.Chunks.{chunk-at}
-
-eq-lt : {a b q : ℕ} → a ≡ b → b < q → a < q
-eq-lt e h = rw e h
+use Rattle.code.specs.Chunk.{chunkOf}
+use Rattle.rows.specs.Chunk.{Evaluable, Writable}
+use Rattle.code.proofs.Chunks.{chunk-at}
 
 -- n new values behind a list that is at long
 filled-behind : (done d : List ℕ) (at n : ℕ) (F : ℕ → ℕ) → length done ≡ at → filled (done ++ drop at d) at F n ≡ done ++ tab F n ++ drop (at + n) d
@@ -74,40 +71,25 @@ module _ (m r : ℕ) (points f old : List ℕ) where
       same = omega (arith, p .few)
 
 module _ (c : Code) (f row : List ℕ) (w : Writable c f row) where
-  limits : Limits (c .m) (c .r) (c .k) (pointsOf c)
-  limits = inside-known (c .m) (c .r) (c .k) (pointsOf c) (w .code .inside)
-
-  room-is : length row ≡ c .r * length (pointsOf c)
-  room-is = w .room ∙ ap (λ (x : ℕ). c .r * x) (sym (w .code .counted))
+  numbers : Numbers (c .m) (c .r) (c .k) (c .count)
+  numbers = code-numbers (w .code)
 
   pub room-top : length row ≤ longest
-  room-top = omega (arith, room-is, limits .numbers .row-top)
+  room-top = omega (arith, w .room, numbers .row-top)
 
   -- the chunk of point i ends within the row
   pub chunk-fits : (i at : ℕ) → at ≡ c .r * i → i < c .count → at + c .r ≤ length row
   chunk-fits i at e l = omega (arith, w .room, mul-le-mul-left (c .r) l, mul-suc (c .r) i)
 
-  pub depth-top : c .r ≤ deepest
-  depth-top = limits .numbers .r-top
-
-  pub count-top : c .count ≤ longest
-  count-top = subst (λ (n : ℕ). n ≤ longest) (w .code .counted) (count-small (limits .numbers))
-
-  point-is : (i : ℕ) → i < c .count → getD (pointsOf c) i 0 ≡ getD (c .points) i 0
-  point-is i l = getD-take (c .count) (c .points) i 0 l
-
-  pub width : Width (c .m)
-  width = limits .numbers .width
-
   pub short : length f ≤ longest
-  short = omega (arith, w .message .size, limits .numbers .k-top, limits .numbers .row-top)
+  short = omega (arith, w .message .size, numbers .k-top, numbers .row-top)
 
   pub evaluable : (symbols logs powers parities : List ℕ) → LogsOf (c .m) f symbols → LogsFor (c .m) logs → PowersOf (c .m) powers → Parities parities
       → (i : ℕ) → i < c .count → Evaluable (c .m) (c .r) (getD (c .points) i 0) f symbols logs powers parities
   evaluable symbols logs powers parities s g p t i l = record {
-    width = width;
-    depth = depth-top;
-    point = eq-lt (sym (point-is i l)) (limits .symbols i);
+    width = numbers .width;
+    depth = numbers .r-top;
+    point = subst (λ (P : ℕ). P < 2 ^ c .m) (sym (code-point (w .code) i l)) (code-symbols (w .code) i);
     message = w .message .symbols;
     short = short;
     symbols-are = s;
@@ -121,8 +103,9 @@ module _ (c : Code) (f row : List ℕ) (w : Writable c f row) where
       → Progress (c .m) (c .r) (pointsOf c) f row (i + 1) (at + c .r) row″
   written-more i at row′ row″ chunk p l e =
       progress-more (c .m) (c .r) (pointsOf c) f row i at row′ row″ chunk p (omega (arith, w .code .counted)) (chunk-fits i at (p .at-is) l)
-      (e ∙ ap (λ (P : ℕ). chunkOf (c .r) (coefficient (c .m) f P)) (sym (point-is i l)))
+      (e ∙ ap (λ (P : ℕ). chunkOf (c .r) (coefficient (c .m) f P)) (code-point (w .code) i l))
 
   pub written-last : (i at : ℕ) (row′ : List ℕ) → Progress (c .m) (c .r) (pointsOf c) f row i at row′ → c .count ≤ i
       → row′ ≡ rowOf (c .m) (c .r) (pointsOf c) f
-  written-last i at row′ p l = progress-last (c .m) (c .r) (pointsOf c) f row i at row′ p (omega (arith, w .code .counted)) room-is
+  written-last i at row′ p l = progress-last (c .m) (c .r) (pointsOf c) f row i at row′ p (omega (arith, w .code .counted))
+      (w .room ∙ ap (λ (x : ℕ). c .r * x) (sym (w .code .counted)))

@@ -1,23 +1,16 @@
--- Chunks of eight symbols, unused ones zero, and what the functions on chunks and rows are given.
+-- What the functions on chunks and rows are given.
 use Prim.Native.Nat.{ℕ, _+_, _*_, _^_, _<_, _≤_}
 use mathlib.Core.Path.{_≡_}
-use mathlib.Core.List.{List, _++_}
-use lib.ListN.{length, drop, replicate}
+use mathlib.Core.List.{List}
+use lib.ListN.{length}
 use Rattle.defs.specs.Field.{Width}
-use Rattle.defs.specs.Place.{tab, Symbols}
+use Rattle.defs.specs.Place.{Symbols}
 use Rattle.defs.specs.Row.{Message}
 use Rattle.defs.specs.Limits.{deepest, longest}
 use Rattle.defs.specs.declared.Code.{Code}
 use Rattle.field.specs.Arithmetic.{Logarithm, Parities}
 use Rattle.code.specs.Checked.{IsCode}
 use Rattle.rows.specs.Tables.{PowersOf, LogsFor, LogsOf}
-
-unfoldable pub blank : List ℕ
-blank = replicate deepest 0
-
--- the chunk F 0, F 1, .., F (r - 1)
-unfoldable pub chunkOf : ℕ → (ℕ → ℕ) → List ℕ
-chunkOf r F = tab F r ++ drop r blank
 
 -- a message f is evaluated at a point, to depth r
 pub record Evaluable (m r P : ℕ) (f symbols logs powers parities : List ℕ) : Type 0 where

@@ -1,5 +1,5 @@
 -- Tables that an encode makes once: powers of 2 and logarithms, with a place for the logarithm of 0.
-use Prim.Native.Nat.{ℕ, _*_, _-_, _^_, _<_, _≤_}
+use Prim.Native.Nat.{ℕ, _+_, _*_, _-_, _^_, _<_, _≤_}
 use mathlib.Core.Path.{_≡_}
 use mathlib.Core.List.{List}
 use lib.ListN.{length, getD}
@@ -12,7 +12,7 @@ nowhere = 510
 
 -- the length of the table of powers
 abbrev pub places : ℕ
-places = 766
+places = nowhere + 256
 
 -- l is the logarithm of a
 pub record LogOf (m a l : ℕ) : Type 0 where

@@ -11,26 +11,28 @@ ghost use Rattle.defs.specs.Encode.{Encoded, distanceVerdict, distanceAnswer};
 ghost use Rattle.theory.specs.Fill.{filled};
 ghost use Rattle.code.specs.Checked.{pointsOf};
 ghost use Rattle.rows.specs.Tables.{PowersOf, LogsFor, LogsOf};
-ghost use Rattle.rows.specs.Chunk.{chunkOf, Coefficient, Evaluable, Writable, Chunks, Rows};
+ghost use Rattle.code.specs.Chunk.{chunkOf};
+ghost use Rattle.rows.specs.Chunk.{Coefficient, Evaluable, Writable, Chunks, Rows};
 use defs::Answer;
 use defs::Code;
 use defs::DEEPEST;
 use defs::LONGEST;
 use defs::Refusal;
 use defs::Verdict;
+use field::POWERS;
 
 // The logarithm of 0: it leads past the powers of every field, twice round, to where zeros stand.
-const NOWHERE: usize = 510;
+const NOWHERE: usize = POWERS;
 
 // The powers and the zeros behind them.
-const PLACES: usize = 766;
+const PLACES: usize = NOWHERE + 256;
 
 // The powers of 2, twice round, with zeros behind them: a constant table would be built again at each look-up.
 fn powers(m: usize) -> [u8; PLACES]
     requires { ⌜ Width m ⌝ }
     ensures { λ t. ⌜ PowersOf m t ⌝ }
 {
-    let n = 2 * (code::field_size(m) - 1);
+    let n = 2 * (field::field_size(m) - 1);
     let mut table = [0u8; PLACES];
     let mut x: u8 = 1;
     let mut i = 0;
@@ -48,7 +50,7 @@ fn logs(m: usize, powers: &[u8; PLACES]) -> [usize; 256]
     requires { ⌜ PowersOf m (now powers) ⌝ }
     ensures { λ t. ⌜ LogsFor m t ⌝ }
 {
-    let order = code::field_size(m) - 1;
+    let order = field::field_size(m) - 1;
     let mut table = [NOWHERE; 256];
     let mut i = 0;
     while i < order {
@@ -83,12 +85,12 @@ fn coefficient(
     message: &[u8],
     symbols: &[usize; LONGEST],
     powers: &[u8; PLACES],
-    parities: &[u8; 1024],
+    parities: &[u8; LONGEST * DEEPEST],
 ) -> u8
     requires { ⌜ Coefficient m point j step (now message) (now symbols) (now powers) (now parities) ⌝ }
     ensures { λ c. ⌜ c ≡ coefficient m (now (message .entry)) point j ⌝ }
 {
-    let size = code::field_size(m);
+    let size = field::field_size(m);
     let k = message.len();
     let mut sum: u8 = 0;
     let mut e = 0;
@@ -103,14 +105,14 @@ fn coefficient(
 }
 
 // The chunk of a message at 0: its first r symbols.
-fn at_zero(r: usize, message: &[u8]) -> [u8; 8]
+fn at_zero(r: usize, message: &[u8]) -> [u8; DEEPEST]
     requires { ⌜ r ≤ deepest ⌝ }
     ensures { λ a. ⌜ a ≡ chunkOf r (λ j. getD (now (message .entry)) j 0) ⌝ }
 {
     if message.len() < r {
-        return chunk_of(message, 0, message.len());
+        return code::chunk_of(message, 0, message.len());
     }
-    chunk_of(message, 0, r)
+    code::chunk_of(message, 0, r)
 }
 
 // The chunk of a message at a point: its first r Hasse coefficients.
@@ -122,8 +124,8 @@ pub fn evaluate(
     symbols: &[usize; LONGEST],
     logs: &[usize; 256],
     powers: &[u8; PLACES],
-    parities: &[u8; 1024],
-) -> [u8; 8]
+    parities: &[u8; LONGEST * DEEPEST],
+) -> [u8; DEEPEST]
     requires { ⌜ Evaluable m r point (now message) (now symbols) (now logs) (now powers) (now parities) ⌝ }
     ensures { λ a. ⌜ a ≡ chunkOf r (coefficient m (now (message .entry)) point) ⌝ }
 {
@@ -131,7 +133,7 @@ pub fn evaluate(
         return at_zero(r, message);
     }
     let step = logs[point as usize];
-    let mut chunk = [0u8; 8];
+    let mut chunk = [0u8; DEEPEST];
     let mut j = 0;
     while j < r {
         chunk[j] = coefficient(m, point, j, step, message, symbols, powers, parities);
@@ -140,22 +142,8 @@ pub fn evaluate(
     chunk
 }
 
-// The chunk that stands in a row from an index on.
-pub fn chunk_of(s: &[u8], at: usize, r: usize) -> [u8; 8]
-    requires { ⌜ (r ≤ deepest) × (at + r ≤ length (now s)) ⌝ }
-    ensures { λ a. ⌜ a ≡ chunkOf r (λ j. getD (now (s .entry)) (at + j) 0) ⌝ }
-{
-    let mut chunk = [0u8; 8];
-    let mut j = 0;
-    while j < r {
-        chunk[j] = s[at + j];
-        j += 1;
-    }
-    chunk
-}
-
 // The depth to which two chunks agree: s stays behind at the first symbol that differs.
-pub fn agree(a: [u8; 8], b: [u8; 8], r: usize) -> usize
+pub fn agree(a: [u8; DEEPEST], b: [u8; DEEPEST], r: usize) -> usize
     requires { ⌜ r ≤ deepest ⌝ }
     ensures { λ s. ⌜ s ≡ agree r (λ j. getD a j 0) (λ j. getD b j 0) ⌝ }
 {
@@ -173,7 +161,7 @@ pub fn agree(a: [u8; 8], b: [u8; 8], r: usize) -> usize
 }
 
 // Writes a chunk into a row.
-fn store(row: &mut [u8], at: usize, r: usize, chunk: [u8; 8])
+fn store(row: &mut [u8], at: usize, r: usize, chunk: [u8; DEEPEST])
     requires { ⌜ (r ≤ deepest) × (at + r ≤ length (now row)) ⌝ }
     ensures { λ _. ⌜ now (row .exit) ≡ filled (now (row .entry)) at (λ j. getD chunk j 0) r ⌝ }
 {
@@ -222,8 +210,8 @@ pub fn chunk_damage(r: usize, a: &[u8], b: &[u8], i: usize) -> usize
     ensures { λ d. ⌜ d ≡ damage r (now (a .entry)) (now (b .entry)) i ⌝ }
 {
     let at = i * r;
-    let x = chunk_of(a, at, r);
-    let y = chunk_of(b, at, r);
+    let x = code::chunk_of(a, at, r);
+    let y = code::chunk_of(b, at, r);
     r - agree(x, y, r)
 }
 

@@ -1,14 +1,23 @@
--- What the loops that write a slip, and symbols that are read, leave in a buffer.
+-- What the loops that write a slip, and symbols that are read, leave at the front of a buffer.
 use Prim.Native.Nat.{ℕ, _+_, _*_}
 use mathlib.Core.Path.{_≡_, _∙_}
 use mathlib.Core.List.{List}
-use lib.ListN.{length}
+use lib.ListN.{length, take, drop}
+use lib.Seq.{take-at}
 use Rattle.defs.specs.Place.{tab}
 use Rattle.defs.specs.Slip.{allBits, numberAt, slipSize, slipBits, slipOf, widthIn, symbolsIn}
 use Rattle.defs.specs.Write.{front}
 use Rattle.theory.specs.Fill.{filled}
 use Rattle.theory.proofs.Place.{length-tab}
 use Rattle.theory.proofs.Fill.{filled-front}
+
+pub take-front : (new old : List ℕ) (n : ℕ) → length new ≡ n → take n (front new old) ≡ new
+unfolding front
+take-front new old n e = take-at new (drop (length new) old) n e
+
+pub length-symbols : (bytes : List ℕ) (past n : ℕ) → length (symbolsIn bytes past n) ≡ n
+unfolding symbolsIn
+length-symbols bytes past n = length-tab _ n
 
 front-filled : (d : List ℕ) (F : ℕ → ℕ) (n : ℕ) → filled d 0 F n ≡ front (tab F n) d
 unfolding front

@@ -5,3 +5,4 @@ pub mod Packed
 pub mod Front
 pub mod Writer
 pub mod Reader
+pub mod Taken

@@ -8,9 +8,10 @@ use lib.ListN.{length, getD}
 use lib.Pow.{pow-mono}
 use Rattle.defs.specs.Field.{Width}
 use Rattle.defs.specs.Place.{tab, Symbols}
-use Rattle.defs.specs.Slip.{bits, allBits, numberAt, headerBits, slipBits}
+use Rattle.defs.specs.Slip.{bits, allBits, numberAt, fieldCode, slipBits}
 use Rattle.theory.proofs.Place.{getD-tab}
 use Rattle.theory.proofs.Width.{by-width}
+use Rattle.slip.specs.Head.{headerBits}
 use Rattle.slip.proofs.Bits.{symbols-append, bits-are, all-bits-are, number-same, number-below, number-split, number-inside, number-front, number-behind, number-symbol}
 
 -- ---- a byte packed, a symbol a turn; left of its symbols are still to come
@@ -96,21 +97,22 @@ header-are m r k count =
     let k-bits : List ℕ = bits 7 (k - 1) ++ bits 1 0 in
     let count-bits : List ℕ = bits 7 (count - 1) ++ k-bits in
     let r-bits : List ℕ = bits 3 (r - 1) ++ count-bits in
-    let m-bits : List ℕ = bits 2 (m / 4) ++ r-bits in
-    field-are 4 1 m-bits (field-are 2 (m / 4) r-bits (field-are 3 (r - 1) count-bits (field-are 7 (count - 1) k-bits (field-are 7 (k - 1) (bits 1 0) (bits-are 1 0)))))
+    let m-bits : List ℕ = bits 2 (fieldCode m) ++ r-bits in
+    field-are 4 1 m-bits (field-are 2 (fieldCode m) r-bits (field-are 3 (r - 1) count-bits (field-are 7 (count - 1) k-bits (field-are 7 (k - 1) (bits 1 0) (bits-are 1 0)))))
 
 module _ (m r k : ℕ) (points w : List ℕ) where
+  header-first : slipBits m r k points w ≡ headerBits m r k (length points) ++ allBits m (points ++ w)
+  unfolding slipBits headerBits bits
+  header-first = refl
+
   pub slip-bits-are : Symbols 1 (slipBits m r k points w)
-  unfolding slipBits
-  slip-bits-are = symbols-append 1 (headerBits m r k (length points)) (allBits m (points ++ w)) (header-are m r k (length points)) (all-bits-are m (points ++ w))
+  slip-bits-are = rw header-first (symbols-append 1 (headerBits m r k (length points)) (allBits m (points ++ w)) (header-are m r k (length points)) (all-bits-are m (points ++ w)))
 
   pub in-header : (v p : ℕ) → p + v ≤ 24 → numberAt v p (slipBits m r k points w) ≡ numberAt v p (headerBits m r k (length points))
-  unfolding slipBits
-  in-header v p l = number-front v p (headerBits m r k (length points)) (allBits m (points ++ w)) (omega (arith, header-length m r k (length points)))
+  in-header v p l = rw header-first (number-front v p (headerBits m r k (length points)) (allBits m (points ++ w)) (omega (arith, header-length m r k (length points))))
 
   pub behind-header : (v p : ℕ) → numberAt v (24 + p) (slipBits m r k points w) ≡ numberAt v p (allBits m (points ++ w))
-  unfolding slipBits
-  behind-header v p = number-behind v p 24 (headerBits m r k (length points)) (allBits m (points ++ w)) (header-length m r k (length points))
+  behind-header v p = rw header-first (number-behind v p 24 (headerBits m r k (length points)) (allBits m (points ++ w)) (header-length m r k (length points)))
 
   -- the two kinds of byte
   pub header-byte : (i h : ℕ) → i < 3 → h ≡ numberAt 24 0 (headerBits m r k (length points)) → h / 2 ^ (16 - 8 * i) % 256 ≡ numberAt 8 (8 * i) (slipBits m r k points w)

@@ -1,12 +1,12 @@
 -- The ways out of the slip reader, and what its own functions rely on.
 use Prim.Native.Nat.{ℕ, _+_, _*_, _<_, _≤_}
-use mathlib.Core.Path.{_≡_, sym}
+use mathlib.Core.Path.{_≡_, sym, _∙_}
+use mathlib.Core.Bool.{_||_}
 use mathlib.Core.List.{List, []}
 use native.Mathlib.Nat.{mul-comm, mul-le-mul-left}
 use native.Mathlib.Omega.{arith}
 use lib.Dec.{ltb}
-use lib.ListN.{length, take, drop}
-use lib.Seq.{take-at}
+use lib.ListN.{length, take}
 use borrow.Author.Tests.{lt-ltb, le-ltb, eq-eqb, ne-eqb, ltb-false}
 use Rattle.defs.specs.Refusal.{refuse, andThen, kept}
 use Rattle.defs.specs.Limits.{longest, numbersVerdict, firstTwice}
@@ -20,50 +20,63 @@ use Rattle.defs.specs.declared.Verdict.the-variants.{Fine, Refused}
 use Rattle.defs.specs.declared.Answer.the-variants.{Done}
 use Rattle.defs.specs.declared.SlipRead.{SlipRead}
 use Rattle.theory.specs.Limits.{Numbers}
-use Rattle.theory.proofs.Place.{length-tab}
-use Rattle.theory.proofs.Limits.{refuse-fine, then-fine, numbers-known, count-small}
+use Rattle.theory.proofs.Limits.{numbers-known, count-small}
+use Rattle.theory.proofs.Verdict.{refuse-fine, then-fine}
 use Rattle.slip.specs.declared.Head.{Head}
 use Rattle.slip.specs.Head.{Heads, Holds}
+use Rattle.slip.proofs.Front.{length-symbols, take-front}
 
 -- ---- the checks of header and size
+
+-- n bytes, and the size that they should have
+abbrev sizeVerdict : ℕ → ℕ → Verdict
+sizeVerdict n size = refuse (ltb n size) SlipShort (refuse (ltb size n) SlipLong Fine)
+
+module _ (n size : ℕ) where
+  pub size-short : n < size → Refused SlipShort ≡ sizeVerdict n size
+  unfolding refuse
+  size-short l = rw (lt-ltb n size l)
+
+  module _ (enough : size ≤ n) where
+    pub size-long : size < n → Refused SlipLong ≡ sizeVerdict n size
+    unfolding refuse
+    size-long l = rw (le-ltb n size enough, lt-ltb size n l)
+
+    pub size-right : n ≤ size → Fine ≡ sizeVerdict n size
+    unfolding refuse
+    size-right l = rw (le-ltb n size enough, le-ltb size n l)
+
+-- a header that was read, and is of edition 1
+pub record Opened (bytes : List ℕ) (h : Head) : Type 0 where
+  pub long : 3 ≤ length bytes
+  pub heads : Heads bytes h
+  pub edition : h .edition ≡ 1
 
 module _ (bytes : List ℕ) where
   pub head-short : length bytes < 3 → Refused SlipShort ≡ headVerdict bytes
   unfolding headVerdict refuse
   head-short l = rw (lt-ltb (length bytes) 3 l)
 
-  module _ (long : 3 ≤ length bytes) (h : Head) (s : Heads bytes h) where
-    pub head-edition : (h .edition ≡ 1 → ⊥) → Refused Edition ≡ headVerdict bytes
-    unfolding headVerdict refuse
-    head-edition n = rw (le-ltb (length bytes) 3 long, ← s .edition-is, ne-eqb (h .edition) 1 n)
+  pub head-edition : 3 ≤ length bytes → (h : Head) → Heads bytes h → (h .edition ≡ 1 → ⊥) → Refused Edition ≡ headVerdict bytes
+  unfolding headVerdict refuse
+  head-edition long h s n = rw (le-ltb (length bytes) 3 long, ← s .edition-is, ne-eqb (h .edition) 1 n)
 
-    module _ (e : h .edition ≡ 1) where
-      pub head-numbers : (x : Refusal) → numbersVerdict (h .m) (h .r) (h .k) (h .count) ≡ Refused x → Refused x ≡ headVerdict bytes
-      unfolding headVerdict refuse andThen
-      head-numbers x v =
-          rw (le-ltb (length bytes) 3 long, ← s .edition-is, eq-eqb (h .edition) 1 e, ← s .m-is, ← s .r-is, ← s .k-is, ← s .count-is, v)
+  module _ (h : Head) (o : Opened bytes h) where
+    -- an opened header is judged by its numbers and its size
+    by-numbers : headVerdict bytes ≡ andThen (numbersVerdict (h .m) (h .r) (h .k) (h .count)) (sizeVerdict (length bytes) (slipSize (h .m) (h .count + h .r * h .count)))
+    unfolding headVerdict refuse sizeIn
+    by-numbers =
+        let s = o .heads in
+        rw (le-ltb (length bytes) 3 (o .long), ← s .edition-is, eq-eqb (h .edition) 1 (o .edition), ← s .m-is, ← s .r-is, ← s .k-is, ← s .count-is)
 
-      module _ (v : numbersVerdict (h .m) (h .r) (h .k) (h .count) ≡ Fine) (size : ℕ) (q : size ≡ slipSize (h .m) (h .count + h .r * h .count)) where
-        size-is : sizeIn bytes ≡ size
-        unfolding sizeIn
-        size-is = rw (← s .m-is, ← s .r-is, ← s .count-is) (sym q)
+    pub head-numbers : (x : Refusal) → numbersVerdict (h .m) (h .r) (h .k) (h .count) ≡ Refused x → Refused x ≡ headVerdict bytes
+    unfolding andThen
+    head-numbers x v = sym (by-numbers ∙ rw v)
 
-        by-size : (x : Verdict) → x ≡ refuse (ltb (length bytes) size) SlipShort (refuse (ltb size (length bytes)) SlipLong Fine) → x ≡ headVerdict bytes
-        unfolding headVerdict refuse andThen
-        by-size x p = rw (size-is, le-ltb (length bytes) 3 long, ← s .edition-is, eq-eqb (h .edition) 1 e, ← s .m-is, ← s .r-is, ← s .k-is, ← s .count-is, v) p
-
-        pub head-small : length bytes < size → Refused SlipShort ≡ headVerdict bytes
-        unfolding refuse
-        head-small l = by-size (Refused SlipShort) (rw (lt-ltb (length bytes) size l))
-
-        module _ (enough : size ≤ length bytes) where
-          pub head-large : size < length bytes → Refused SlipLong ≡ headVerdict bytes
-          unfolding refuse
-          head-large l = by-size (Refused SlipLong) (rw (le-ltb (length bytes) size enough, lt-ltb size (length bytes) l))
-
-          pub head-fine : length bytes ≤ size → Fine ≡ headVerdict bytes
-          unfolding refuse
-          head-fine l = by-size Fine (rw (le-ltb (length bytes) size enough, le-ltb size (length bytes) l))
+    pub head-size : numbersVerdict (h .m) (h .r) (h .k) (h .count) ≡ Fine → (size : ℕ) → size ≡ slipSize (h .m) (h .count + h .r * h .count)
+        → (v : Verdict) → v ≡ sizeVerdict (length bytes) size → v ≡ headVerdict bytes
+    unfolding andThen
+    head-size f size q v e = e ∙ sym (by-numbers ∙ rw (f, ← q))
 
 -- what they show of the bytes
 pub record Sound (bytes : List ℕ) : Type 0 where
@@ -103,18 +116,10 @@ module _ (bytes : List ℕ) (s : Sound bytes) where
         enough = rw e (omega (arith, s .size, mul-comm (widthIn bytes) N, mul-le-mul-left {m = past + n} {n = N} (widthIn bytes) l));
       }
 
-length-symbols : (bytes : List ℕ) (past n : ℕ) → length (symbolsIn bytes past n) ≡ n
-unfolding symbolsIn
-length-symbols bytes past n = length-tab _ n
-
-take-front : (n : ℕ) (s d : List ℕ) → length s ≡ n → take n (front s d) ≡ s
-unfolding front
-take-front n s d e = take-at s (drop (length s) d) n e
-
 -- the search for a repeated point sees the points alone
 pub twice-seen : (bytes d found : List ℕ) (count : ℕ) → count ≡ countIn bytes → found ≡ front (symbolsIn bytes 0 count) d → firstTwice (take count found) ≡ firstTwice (pointsIn bytes)
 unfolding pointsIn
-twice-seen bytes d found count c e = rw (e, take-front count (symbolsIn bytes 0 count) d (length-symbols bytes 0 count), c)
+twice-seen bytes d found count c e = rw (e, take-front (symbolsIn bytes 0 count) d count (length-symbols bytes 0 count), c)
 
 -- what was read by the header's numbers
 module _ (bytes : List ℕ) (h : Head) (s : Heads bytes h) where
@@ -135,33 +140,46 @@ module _ (bytes : List ℕ) (h : Head) (s : Heads bytes h) where
 
 -- ---- the ways out of the call
 
+-- a sound slip whose points were searched
+pub record Searched (bytes : List ℕ) (h : Head) (twice : ℕ) : Type 0 where
+  pub fine : headVerdict bytes ≡ Fine
+  pub heads : Heads bytes h
+  pub twice-is : twice ≡ firstTwice (pointsIn bytes)
+
 module _ (bytes points row : List ℕ) where
-  refused-read : (x : Refusal) (s : SlipRead) → readVerdict bytes (length points) (length row) ≡ Refused x → s ≡ reading (Refused x) [] → Read bytes points row s points row
+  refused-read : (x : Refusal) (s : SlipRead) → Refused x ≡ readVerdict bytes (length points) (length row) → s ≡ reading (Refused x) [] → Read bytes points row s points row
   unfolding reading kept
-  refused-read x s e a = record { answers = rw e a; leaves-points = rw e; leaves-row = rw e }
+  refused-read x s e a = record { answers = rw (← e) a; leaves-points = rw (← e); leaves-row = rw (← e) }
 
   pub read-head : (x : Refusal) (s : SlipRead) → headVerdict bytes ≡ Refused x → s ≡ reading (Refused x) [] → Read bytes points row s points row
   unfolding readVerdict andThen
   read-head x s e a = refused-read x s (rw e) a
 
-  module _ (e : headVerdict bytes ≡ Fine) (count n twice : ℕ) (c : count ≡ countIn bytes) (q : n ≡ depthIn bytes * countIn bytes) (t : twice ≡ firstTwice (pointsIn bytes)) where
-    pub read-twice : (s : SlipRead) → twice < count → s ≡ reading (Refused (PointTwice twice)) [] → Read bytes points row s points row
-    unfolding readVerdict andThen refuse
-    read-twice s l a = refused-read _ s (rw (e, ← t, ← c, lt-ltb twice count l)) a
+  module _ (h : Head) (twice : ℕ) (k : Searched bytes h twice) where
+    -- such a slip is judged by that search and by the room that there is
+    by-room : (v : Verdict)
+        → v ≡ refuse (ltb twice (h .count)) (PointTwice twice) (refuse (ltb (length points) (h .count) || ltb (length row) (h .r * h .count)) Length Fine)
+        → v ≡ readVerdict bytes (length points) (length row)
+    unfolding readVerdict andThen
+    by-room v e = e ∙ rw (k .fine, k .twice-is, k .heads .r-is, k .heads .count-is)
 
-    module _ (once : count ≤ twice) where
-      pub read-points : (s : SlipRead) → length points < count → s ≡ reading (Refused Length) [] → Read bytes points row s points row
-      unfolding readVerdict andThen refuse
-      read-points s l a = refused-read _ s (rw (e, ← q, ← t, ← c, le-ltb twice count once, lt-ltb (length points) count l)) a
+    pub read-twice : (s : SlipRead) → twice < h .count → s ≡ reading (Refused (PointTwice twice)) [] → Read bytes points row s points row
+    unfolding refuse
+    read-twice s l a = refused-read _ s (by-room _ (rw (lt-ltb twice (h .count) l))) a
 
-      module _ (p : count ≤ length points) where
-        pub read-row : (s : SlipRead) → length row < n → s ≡ reading (Refused Length) [] → Read bytes points row s points row
-        unfolding readVerdict andThen refuse
-        read-row s l a = refused-read _ s (rw (e, ← q, ← t, ← c, le-ltb twice count once, le-ltb (length points) count p, lt-ltb (length row) n l)) a
+    module _ (once : h .count ≤ twice) where
+      pub read-points : (s : SlipRead) → length points < h .count → s ≡ reading (Refused Length) [] → Read bytes points row s points row
+      unfolding refuse
+      read-points s l a = refused-read _ s (by-room _ (rw (le-ltb twice (h .count) once, lt-ltb (length points) (h .count) l))) a
 
-        pub read-fine : n ≤ length row → readVerdict bytes (length points) (length row) ≡ Fine
-        unfolding readVerdict andThen refuse
-        read-fine l = rw (e, ← q, ← t, ← c, le-ltb twice count once, le-ltb (length points) count p, le-ltb (length row) n l)
+      module _ (p : h .count ≤ length points) where
+        pub read-row : (s : SlipRead) → length row < h .r * h .count → s ≡ reading (Refused Length) [] → Read bytes points row s points row
+        unfolding refuse
+        read-row s l a = refused-read _ s (by-room _ (rw (le-ltb twice (h .count) once, le-ltb (length points) (h .count) p, lt-ltb (length row) (h .r * h .count) l))) a
+
+        pub read-fine : h .r * h .count ≤ length row → readVerdict bytes (length points) (length row) ≡ Fine
+        unfolding refuse
+        read-fine l = sym (by-room Fine (rw (le-ltb twice (h .count) once, le-ltb (length points) (h .count) p, le-ltb (length row) (h .r * h .count) l)))
 
   pub read-done : readVerdict bytes (length points) (length row) ≡ Fine → (s : SlipRead) → s ≡ reading Fine bytes
       → (points′ row′ : List ℕ) → points′ ≡ front (pointsIn bytes) points → row′ ≡ front (rowIn bytes) row → Read bytes points row s points′ row′

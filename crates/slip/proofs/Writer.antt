@@ -1,6 +1,6 @@
 -- The ways out of the slip writer, and what its own functions rely on.
 use Prim.Native.Nat.{ℕ, _+_, _*_, _<_, _≤_}
-use mathlib.Core.Path.{_≡_}
+use mathlib.Core.Path.{_≡_, sym}
 use mathlib.Core.List.{List, _++_}
 use native.Mathlib.Nat.{mul-le-mul}
 use native.Mathlib.Omega.{arith}
@@ -11,7 +11,7 @@ use Rattle.defs.specs.Place.{Symbols}
 use Rattle.defs.specs.Refusal.{refuse, andThen, answer, kept}
 use Rattle.defs.specs.Limits.{longest, codeVerdict, Inside}
 use Rattle.defs.specs.Encode.{symbolsVerdict}
-use Rattle.defs.specs.Slip.{slipSize, slipOf}
+use Rattle.defs.specs.Slip.{slipSize, longestSlip, slipOf}
 use Rattle.defs.specs.Write.{front, writeVerdict, Written}
 use Rattle.defs.specs.declared.Refusal.{Refusal}
 use Rattle.defs.specs.declared.Refusal.the-variants.{Length}
@@ -19,9 +19,11 @@ use Rattle.defs.specs.declared.Verdict.{Verdict}
 use Rattle.defs.specs.declared.Verdict.the-variants.{Fine, Refused}
 use Rattle.defs.specs.declared.Answer.the-variants.{Done, Refused as No}
 use Rattle.theory.proofs.Place.{none-high}
-use Rattle.theory.proofs.Limits.{refuse-fine, then-fine, inside-known, count-small}
+use Rattle.theory.proofs.Limits.{inside-known, count-small}
+use Rattle.theory.proofs.Checks.{symbols-fine}
 use Rattle.slip.specs.Head.{Fitting}
 use Rattle.theory.proofs.Width.{width-top}
+use Rattle.theory.proofs.Verdict.{refuse-fine, then-fine}
 use Rattle.slip.proofs.Bits.{symbols-append}
 use Rattle.slip.proofs.HeaderBits.{fitting}
 
@@ -30,7 +32,7 @@ module _ (m r k : ℕ) (points : List ℕ) (e : Inside m r k points) where
   pub inside-width : Width m
   inside-width = inside-known m r k points e .numbers .width
 
-  pub inside-fits : Fitting m r k (length points)
+  pub inside-fits : Fitting r k (length points)
   inside-fits = fitting m r k (length points) (inside-known m r k points e .numbers)
 
   pub inside-symbols : (w : List ℕ) → Symbols m w → Symbols m (points ++ w)
@@ -77,16 +79,20 @@ writable m r k points w size e =
       symbols = none-high m w (ltb-false _ _ (e4 .0));
     }
 
+pub writable-fine : (m r k : ℕ) (points w : List ℕ) (size : ℕ) → Writable m r k points w size → writeVerdict m r k points w size ≡ Fine
+writable-fine m r k points w size x =
+    sym (by-symbols m r k points w size (x .inside) (x .row) (x .room) Fine (sym (symbols-fine m w (x .symbols))))
+
 -- the points and a row of them are few
 pub few : (m r k : ℕ) (points w : List ℕ) → Inside m r k points → length w ≡ r * length points → length points + length w ≤ 2 * longest
 few m r k points w e l =
     let n = inside-known m r k points e .numbers in
     omega (arith, count-small n, n .row-top)
 
--- a slip has at most 259 bytes
-pub size-top : (m symbols : ℕ) → Width m → symbols ≤ 2 * longest → slipSize m symbols ≤ 259
+-- no slip is longer than the longest
+pub size-top : (m symbols : ℕ) → Width m → symbols ≤ 2 * longest → slipSize m symbols ≤ longestSlip
 unfolding slipSize
-size-top m symbols w l = omega (arith, mul-le-mul {n₁ = symbols} {m₁ = m} {n₂ = 256} {m₂ = 8} l (width-top m w))
+size-top m symbols w l = omega (arith, mul-le-mul {n₁ = symbols} {m₁ = m} {n₂ = 2 * longest} {m₂ = 8} l (width-top m w))
 
 -- the ways out of the call
 module _ (m r k : ℕ) (points w bytes : List ℕ) where

@@ -1,16 +1,19 @@
--- The numbers that fit the fields of the header, those that a header holds, and the symbols behind it.
-use Prim.Native.Nat.{ℕ, _+_, _*_, _<_, _≤_}
+-- The header: its bits, the numbers that fit its fields, those that it holds, and the symbols behind it.
+use Prim.Native.Nat.{ℕ, _+_, _*_, _-_, _<_, _≤_}
 use mathlib.Core.Path.{_≡_}
-use mathlib.Core.List.{List}
+use mathlib.Core.List.{List, _++_}
 use lib.ListN.{length}
 use Rattle.defs.specs.Field.{Width}
 use Rattle.defs.specs.Limits.{longest}
-use Rattle.defs.specs.Slip.{editionIn, widthIn, depthIn, countIn, dimensionIn}
+use Rattle.defs.specs.Slip.{bits, fieldCode, editionIn, widthIn, depthIn, countIn, dimensionIn}
 use Rattle.slip.specs.declared.Head.{Head}
 
--- of 2 bits for m / 4, 3 for r - 1, 7 for n' - 1 and 7 for k - 1
-pub record Fitting (m r k count : ℕ) : Type 0 where
-  pub m-top : m ≤ 8
+-- what stands before the points
+unfoldable pub headerBits : ℕ → ℕ → ℕ → ℕ → List ℕ
+headerBits m r k count = bits 4 1 ++ (bits 2 (fieldCode m) ++ (bits 3 (r - 1) ++ (bits 7 (count - 1) ++ (bits 7 (k - 1) ++ bits 1 0))))
+
+-- of 3 bits for r - 1, 7 for n' - 1 and 7 for k - 1
+pub record Fitting (r k count : ℕ) : Type 0 where
   pub r-pos : 0 < r
   pub r-top : r ≤ 8
   pub count-pos : 0 < count

@@ -6,15 +6,18 @@ ghost use lib.ListN.{length, getD};
 ghost use Rattle.defs.specs.Field.{Width};
 ghost use Rattle.defs.specs.Place.{Symbols};
 ghost use Rattle.defs.specs.Limits.{longest, firstTwice, Inside};
-ghost use Rattle.defs.specs.Slip.{allBits, numberAt, headerBits, slipSize, slipBits, slipOf, widthIn, countIn, symbolsIn, pointsIn};
+ghost use Rattle.defs.specs.Slip.{allBits, numberAt, widthOf, fieldCode, slipBits, slipSize, longestSlip, slipOf, widthIn, countIn, symbolsIn, pointsIn};
 ghost use Rattle.defs.specs.Write.{front, writeVerdict, Written};
 ghost use Rattle.defs.specs.Read.{headVerdict, reading, Read};
-ghost use Rattle.slip.specs.Head.{Fitting, Heads, Holds};
+ghost use Rattle.slip.specs.Head.{headerBits, Fitting, Heads, Holds};
 use defs::Answer;
 use defs::LONGEST;
 use defs::Refusal;
 use defs::SlipRead;
 use defs::Verdict;
+
+// The bytes that a slip may have.
+pub const LONGEST_SLIP: usize = 3 + (2 * LONGEST * 8 + 7) / 8;
 
 // The bytes of a slip with so many points and symbols in all.
 fn slip_size(m: usize, symbols: usize) -> usize
@@ -31,12 +34,37 @@ fn wide(x: u8) -> usize
     x as usize
 }
 
+// The field of this m: 0, 1, 2 for 2, 4, 8, and 3 for none.
+fn field_code(m: usize) -> usize
+    ensures { λ f. ⌜ (f ≡ fieldCode m) × (f < 4) ⌝ }
+{
+    match m {
+        2 => 0,
+        4 => 1,
+        8 => 2,
+        _ => 3,
+    }
+}
+
+// The m of a field, and 0 where there is no such field.
+fn width_of(field: usize) -> usize
+    ensures { λ m. ⌜ m ≡ widthOf field ⌝ }
+{
+    match field {
+        0 => 2,
+        1 => 4,
+        2 => 8,
+        _ => 0,
+    }
+}
+
 // The header of 24 bits as a number: edition, field, r - 1, n' - 1, k - 1 and the spare bit.
 fn header(m: usize, r: usize, k: usize, count: usize) -> usize
-    requires { ⌜ Fitting m r k count ⌝ }
+    requires { ⌜ Fitting r k count ⌝ }
     ensures { λ h. ⌜ h ≡ numberAt 24 0 (headerBits m r k count) ⌝ }
 {
-    ((((4 + m / 4) * 8 + (r - 1)) * 128 + (count - 1)) * 128 + (k - 1)) * 2
+    let field = field_code(m);
+    ((((4 + field) * 8 + (r - 1)) * 128 + (count - 1)) * 128 + (k - 1)) * 2
 }
 
 // The symbol at j of the points and then the row, and 0 behind them.
@@ -58,7 +86,7 @@ fn pack(m: usize, points: &[u8], row: &[u8], i: usize) -> u8
     requires { ⌜ Width m × Symbols m (now points ++ now row) × (i < 2 ^ 32) ⌝ }
     ensures { λ b. ⌜ b ≡ numberAt 8 (8 * i) (allBits m (now (points .entry) ++ now (row .entry))) ⌝ }
 {
-    let size = code::field_size(m);
+    let size = field::field_size(m);
     let each = 8 / m;
     let from = each * i;
     let mut byte = 0;
@@ -84,7 +112,7 @@ fn slip_byte(m: usize, r: usize, k: usize, points: &[u8], row: &[u8], i: usize) 
 
 // Writes the slip, of size bytes, to the front of a buffer.
 fn fill_slip(m: usize, r: usize, k: usize, points: &[u8], row: &[u8], size: usize, bytes: &mut [u8])
-    requires { ⌜ Inside m r k (now points) × Symbols m (now row) × (size ≡ slipSize m (length (now points) + length (now row))) × (size ≤ 259) × (size ≤ length (now bytes)) ⌝ }
+    requires { ⌜ Inside m r k (now points) × Symbols m (now row) × (size ≡ slipSize m (length (now points) + length (now row))) × (size ≤ longestSlip) × (size ≤ length (now bytes)) ⌝ }
     ensures { λ _. ⌜ now (bytes .exit) ≡ front (slipOf m r k (now (points .entry)) (now (row .entry))) (now (bytes .entry)) ⌝ }
 {
     let mut i = 0;
@@ -147,13 +175,13 @@ fn head_of(bytes: &[u8]) -> Head
 {
     let h = (wide(bytes[0]) * 256 + wide(bytes[1])) * 256 + wide(bytes[2]);
     let edition = (h >> 20) % 16;
-    let field = (h >> 18) % 4;
+    let m = width_of((h >> 18) % 4);
     let r = (h >> 15) % 8 + 1;
     let count = (h >> 8) % 128 + 1;
     let k = (h >> 1) % 128 + 1;
     Head {
         edition,
-        m: 2 << field,
+        m,
         r,
         count,
         k,
@@ -167,7 +195,7 @@ fn read_symbol(m: usize, bytes: &[u8], j: usize) -> u8
 {
     let place = 24 + m * j;
     let byte = wide(bytes[place / 8]);
-    ((byte >> (8 - m - place % 8)) % code::field_size(m)) as u8
+    ((byte >> (8 - m - place % 8)) % field::field_size(m)) as u8
 }
 
 // Writes n symbols behind the header, past the first ones, to the front of a buffer.

@@ -1,5 +1,5 @@
 // A table of slips, good, damaged, cut, extended and noise: standard input has each behind its length in two bytes, the
-// lower first, and standard output the line of each, as two other programs computed it.
+// lower first, and standard output the line of each, as `second` computed it.
 ghost use Prim.Native.Nat.{_<_};
 
 fn wide(x: u8) -> usize

@@ -5,10 +5,10 @@ use Prim.Native.Nat.{ℕ, _+_, _^_, _<_, _≤_}
 use native.Mathlib.Nat.{le-refl}
 use native.Mathlib.Omega.{arith}
 use Rattle.defs.specs.Field.{add, mul}
+use Rattle.theory.proofs.Order.{eq-or-not}
 use Rattle.theory.proofs.Field.{0-add, add-self, mul-comm, one-mul-of-lt}
 use Rattle.solve.specs.System.{Matrix}
 use Rattle.solve.specs.Step.{Pivot, Added, Stairs, Leads}
-use Rattle.solve.proofs.Sums.{eq-or-not}
 use Rattle.solve.proofs.Steps.{scaled, added-stairs}
 
 -- a row that has 0 already

@@ -8,16 +8,13 @@ use borrow.Author.Tests.{lt-ltb, le-ltb, eq-eqb, ne-eqb}
 use lib.Pow.{pow-pos}
 use Rattle.defs.specs.Field.{add, mul}
 use Rattle.defs.specs.Row.{sum}
+use Rattle.theory.proofs.Order.{eq-or-not, lt-or-le, eq-lt}
 use Rattle.theory.proofs.Field.{add-0, add-self, mul-0, 0-mul, one-mul-of-lt}
-use Rattle.theory.proofs.Sum.{sum-zero, sum-from}
+use Rattle.theory.proofs.Sum.{sum-zero, sum-from, sum-cut, tail-more, tail-zero}
 use Rattle.solve.specs.System.{Matrix, Solves, free}
 use Rattle.solve.specs.Step.{Pivot, Alike, Stairs, Back}
 use Rattle.solve.specs.Answer.{IsFree, IsFull, Answers}
 use Rattle.solve.specs.declared.Solved.{Solved}
-use Rattle.solve.proofs.Sums.{eq-or-not, lt-or-le, sum-cut, tail-more, tail-zero}
-
-pub eq-lt : {a b q : ℕ} → a ≡ b → b < q → a < q
-eq-lt e h = rw e h
 
 pub free-below : (M : Matrix) (c j : ℕ) → j < c → free M c j ≡ M j c
 unfolding free

@@ -1,5 +1,4 @@
 -- The laws behind the elimination.
-pub mod Sums
 pub mod Steps
 pub mod Columns
 pub mod Free

@@ -1,58 +1,20 @@
--- Twice an entry by bytes, and every multiple of a row from x times and 16 x times the row, x below 16.
+-- Every multiple of a row from x times and 16 x times the row, x below 16.
 use mathlib.Core.Path.{_≡_, refl, sym, ap, ap₂, _∙_}
 use mathlib.Core.Logic.{⊎-elim, inl, inr}
 use Prim.Native.Nat.{ℕ, zero, suc, _+_, _*_, _-_, _/_, _%_, _^_, _<_, _≤_}
-use native.Mathlib.Nat.{mod-lt, mul-one, one-mul, pow-suc}
+use native.Mathlib.Nat.{mod-lt, mul-one, pow-suc}
 use native.Mathlib.Omega.{arith}
 use native.Mathlib.Nat as N
 use lib.Pow.{pow-pos, split}
 use lib.Bits.{xor-shifted}
+use Rattle.theory.proofs.Order.{eq-or-not, lt-or-le, eq-lt}
 use Rattle.theory.proofs.Width.{field-top}
-use Rattle.defs.specs.Field.{Width, add, modulus, times2, mul}
-use Rattle.field.specs.Arithmetic.{Element}
-use Rattle.field.proofs.Twice.{twice-low, twice-high}
-use Rattle.theory.proofs.Field.{add-0, add-comm, mul-add-l, mul-assoc, mul-comm, mul-times2-l, times2-pow, one-mul-of-lt, 0-mul, sums}
+use Rattle.defs.specs.Field.{Width, add, times2, mul}
+use Rattle.field.proofs.Twice.{twice-low}
+use Rattle.theory.proofs.Field.{add-0, add-comm, mul-add-l, mul-assoc, mul-comm, mul-times2-l, times2-pow, one-mul-of-lt, 0-mul}
 use Rattle.solve.specs.Table.{stride}
 use Rattle.solve.specs.System.{Matrix}
 use Rattle.solve.specs.Multiples.{Copied, Set, Filled, Multiples}
-use Rattle.solve.proofs.Sums.{eq-or-not, lt-or-le}
-use Rattle.solve.proofs.Free.{eq-lt}
-
--- the modulus, its top bit apart
-pub rest-8 : (m : ℕ) → m ≡ 8 → modulus m ≡ add (2 ^ m) 29
-unfolding modulus add
-rest-8 m e = rw e
-
-pub rest-small : (m : ℕ) → Width m → (m ≡ 8 → ⊥) → modulus m ≡ add (2 ^ m) 3
-unfolding modulus add
-rest-small m (inl e) n = rw e
-rest-small m (inr (inl e)) n = rw e
-rest-small m (inr (inr e)) n = absurd (n e)
-
-pub doubled-low : (m x : ℕ) {h : ℕ} → h * 2 ≡ 2 ^ m → x < h → Element m (times2 m x) (x + x)
-doubled-low m x e l =
-    let two : x + x ≡ x * 2 = omega arith in
-    rw two (twice-low m x (omega arith))
-
-top-bit : (m y : ℕ) → y < 2 ^ m → add (2 ^ m) y ≡ 2 ^ m + y
-unfolding add
-top-bit m y h = rw one-mul at (xor-shifted 1 m y h)
-
-pub doubled-high : (m x r : ℕ) {h : ℕ} → Width m → h * 2 ≡ 2 ^ m → h ≤ x → x < 2 ^ m → modulus m ≡ add (2 ^ m) r
-    → Element m (times2 m x) (add (x - h + (x - h)) r)
-doubled-high m x r {h} W e l s q = rw same (twice-high m x W s refl (omega arith) refl)
-  where
-    y : ℕ
-    y = x - h + (x - h)
-
-    cancels : (a b c : ℕ) → add (add a b) (add a c) ≡ add b c
-    cancels a b c = simp sums
-
-    shifted : add (2 ^ m) y ≡ x * 2
-    shifted = top-bit m y (omega arith) ∙ omega arith
-
-    same : add y r ≡ add (x * 2) (modulus m)
-    same = sym (ap₂ add (sym shifted) q ∙ cancels (2 ^ m) y r)
 
 -- a number from its high and its low bits
 parts : (k n : ℕ) → add (n / 2 ^ k * 2 ^ k) (n % 2 ^ k) ≡ n

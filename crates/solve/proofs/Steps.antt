@@ -4,11 +4,11 @@ use mathlib.Core.Logic.{⊎-elim}
 use Prim.Native.Nat.{ℕ, _^_, _<_, _≤_}
 use native.Mathlib.Omega.{arith}
 use Rattle.defs.specs.Field.{add, mul}
+use Rattle.theory.proofs.Order.{eq-or-not}
 use Rattle.theory.proofs.Field.{add-0, mul-lt, mul-0, mul-add-l, mul-assoc, one-mul-of-lt, sums}
-use Rattle.theory.proofs.Sum.{sum-ext, sum-add, sum-scale}
+use Rattle.theory.proofs.Sum.{sum-ext, sum-add, sum-scale, sum-lt}
 use Rattle.solve.specs.System.{Matrix, dot}
 use Rattle.solve.specs.Step.{Added, Alike, Stairs}
-use Rattle.solve.proofs.Sums.{eq-or-not, sum-lt}
 
 -- a d and a + 1 times d are together a times d, so that adding a row to itself scales it
 pub scaled : (m a d : ℕ) → d < 2 ^ m → add d (mul m (add a 1) d) ≡ mul m a d

@@ -6,11 +6,12 @@ use native.Mathlib.Nat.{le-refl}
 use native.Mathlib.Omega.{arith}
 use Rattle.defs.specs.Field.{add, mul}
 use Rattle.defs.specs.Row.{sumFrom}
+use Rattle.theory.proofs.Order.{eq-or-not, lt-or-le}
 use Rattle.theory.proofs.Field.{add-0, add-comm, mul-comm, one-mul-of-lt}
+use Rattle.theory.proofs.Sum.{tail-more, tail-same, tail-zero}
 use Rattle.solve.specs.Table.{stride}
 use Rattle.solve.specs.System.{Matrix, free}
 use Rattle.solve.specs.Step.{Spread, Back}
-use Rattle.solve.proofs.Sums.{eq-or-not, lt-or-le, tail-more, tail-same, tail-zero}
 use Rattle.solve.proofs.Free.{free-below, free-here, free-past}
 
 -- unknowns from k on are in column c of N; above row k that column has what they make of each row of M

@@ -4,9 +4,9 @@ use mathlib.Core.List.{List}
 use mathlib.Core.Logic.{⊎-elim}
 use Prim.Native.Nat.{ℕ, _+_, _*_, _^_, _<_, _≤_}
 use native.Mathlib.Omega.{arith}
-use lib.ListN.{length, getD, set, replicate, length-set, length-replicate, getD-replicate, List·getD-eq-default}
-use lib.Pow.{pow-pos}
+use lib.ListN.{length, getD, set, length-set}
 use lib.Seq.{getD-set-same, getD-set-other}
+use Rattle.theory.proofs.Order.{eq-or-not, lt-or-le, eq-lt}
 use Rattle.theory.proofs.Width.{field-top}
 use Rattle.defs.specs.Field.{Width, add, mul}
 use Rattle.defs.specs.Place.{Symbols}
@@ -14,8 +14,6 @@ use Rattle.field.specs.Arithmetic.{Products}
 use Rattle.theory.proofs.Field.{add-0, add-lt, mul-lt, mul-0, mul-comm}
 use Rattle.solve.specs.Table.{stride, tableSize, at}
 use Rattle.solve.specs.Step.{Added, Spread}
-use Rattle.solve.proofs.Sums.{eq-or-not, lt-or-le}
-use Rattle.solve.proofs.Free.{eq-lt}
 
 pub byte : {m a : ℕ} → Width m → a < 2 ^ m → a < 256
 byte {m} W h = omega (arith, field-top m W)
@@ -90,10 +88,3 @@ wrote-spread {m} {c} {k} {n} {t₀} {t} W h g fits = record {
   below = λ i l. W .outside (i * stride + c) (λ j a b e. omega arith);
   others = λ i j l o. W .outside (i * stride + j) (λ b x y e. o (omega arith));
 }
-
-pub zeros : (n k : ℕ) → getD (replicate {A = ℕ} n 0) k 0 ≡ 0
-zeros n k =
-    ⊎-elim (λ l. getD-replicate n k 0 0 l) (λ l. List·getD-eq-default (replicate n 0) 0 {n = k} (omega (arith, length-replicate {A = ℕ} n 0))) (lt-or-le k n)
-
-pub zeros-lt : (m n : ℕ) → Symbols m (replicate n 0)
-zeros-lt m n k = eq-lt (zeros n k) (pow-pos m)

@@ -1,12 +1,12 @@
 -- What it means that a call's checks find nothing, as plain facts.
-use Prim.Native.Nat.{ℕ, _*_, _^_}
+use Prim.Native.Nat.{ℕ, _*_}
 use mathlib.Core.Path.{_≡_}
 use mathlib.Core.Bool.{not}
 use mathlib.Core.List.{List}
 use native.Mathlib.Omega.{arith}
 use lib.Dec.{eqb}
-use lib.ListN.{length, getD}
-use borrow.Author.Tests.{eqb-true, eq-eqb, not-false, ltb-false, le-ltb, lt-leb}
+use lib.ListN.{length}
+use borrow.Author.Tests.{eqb-true, eq-eqb, not-false, ltb-false, le-ltb}
 use Rattle.defs.specs.Place.{Symbols, firstHigh}
 use Rattle.defs.specs.Row.{Message}
 use Rattle.defs.specs.Refusal.{refuse, andThen}
@@ -16,8 +16,9 @@ use Rattle.defs.specs.Decode.{decodeVerdict}
 use Rattle.defs.specs.declared.Refusal.{Refusal}
 use Rattle.defs.specs.declared.Verdict.{Verdict}
 use Rattle.defs.specs.declared.Verdict.the-variants.{Fine}
-use Rattle.theory.proofs.Place.{least-none, none-high}
-use Rattle.theory.proofs.Limits.{refuse-fine, then-fine}
+use Rattle.theory.proofs.Place.{none-high}
+use Rattle.theory.proofs.Limits.{all-low}
+use Rattle.theory.proofs.Verdict.{refuse-fine, then-fine}
 
 -- a length that is as it must be
 same-length : (a b : ℕ) (x : Refusal) (v : Verdict) → refuse (not (eqb a b)) x v ≡ Fine → (a ≡ b) × (v ≡ Fine)
@@ -33,11 +34,9 @@ symbols-known : (m : ℕ) (s : List ℕ) → symbolsVerdict m s ≡ Fine → Sym
 unfolding symbolsVerdict
 symbols-known m s e = none-high m s (ltb-false _ _ (refuse-fine _ _ _ e .0))
 
-symbols-fine : (m : ℕ) (s : List ℕ) → Symbols m s → symbolsVerdict m s ≡ Fine
-unfolding symbolsVerdict refuse firstHigh
-symbols-fine m s h =
-    let e : firstHigh m s ≡ length s = least-none _ (length s) (λ j l. lt-leb (2 ^ m) (getD s j 0) (h j)) in
-    rw (le-ltb (firstHigh m s) (length s) (omega arith))
+pub symbols-fine : (m : ℕ) (s : List ℕ) → Symbols m s → symbolsVerdict m s ≡ Fine
+unfolding symbolsVerdict refuse
+symbols-fine m s h = rw (le-ltb (firstHigh m s) (length s) (omega (arith, all-low m s h)))
 
 module _ (m r k : ℕ) (points : List ℕ) where
   pub encode-known : (f : List ℕ) (size : ℕ) → encodeVerdict m r k points f size ≡ Fine

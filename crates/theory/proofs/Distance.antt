@@ -8,11 +8,15 @@ use native.Mathlib.Decide.{decLt}
 use lib.ListN.{length, getD}
 use lib.Seq.{ext-getD}
 use Rattle.defs.specs.Place.{total}
-use Rattle.defs.specs.Distance.{symbol, agreeAt, damage, distance}
+use Rattle.defs.specs.Distance.{symbol, agreeAt, damage, depths, distance}
 use Rattle.theory.specs.Chunks.{agreement, apart}
-use Rattle.theory.proofs.Place.{total-const}
+use Rattle.theory.proofs.Place.{length-tab, total-const}
 use Rattle.theory.proofs.Agree.{agree-eq, agree-max}
 use Rattle.theory.proofs.Chunks.{apart-sym, apart-triangle, apart-agreement}
+
+pub length-depths : (r count : ℕ) (u w : List ℕ) → length (depths r count u w) ≡ count
+unfolding depths
+length-depths r count u w = length-tab _ count
 
 total-none : (n : ℕ) (F : ℕ → ℕ) → ((i : ℕ) → i < n → F i ≡ 0) → total n F ≡ 0
 unfolding total

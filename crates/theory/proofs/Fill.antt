@@ -6,7 +6,7 @@ use native.Mathlib.Nat.{add-suc, add-zero, zero-add}
 use native.Mathlib.Numerals.{add-one}
 use native.Mathlib.Omega.{arith}
 use lib.ListN.{length, getD, take, drop, set, length-append, length-drop, take-append-drop}
-use lib.Seq.{length-take-le, drop-cons, set-at, append-snoc, drop-length}
+use lib.Seq.{length-take-le, drop-cons, set-at, append-snoc}
 use Rattle.defs.specs.Place.{tab}
 use Rattle.theory.specs.Fill.{filled}
 use Rattle.theory.proofs.Place.{length-tab, tab-snoc, tab-getD}
@@ -42,13 +42,10 @@ unfolding filled
 length-filled d at F n h =
     length-append (take at d ++ tab F n) (drop (at + n) d) ∙ omega (arith, head-length d at F n (omega arith), length-drop (at + n) d)
 
--- what the loop leaves: new values in front, a copy of s in front, or a list filled whole
+-- what the loop leaves: new values in front, or a copy of s
 pub filled-front : (d : List ℕ) (F : ℕ → ℕ) (n : ℕ) → filled d 0 F n ≡ tab F n ++ drop n d
 unfolding filled
 filled-front d F n = ap (λ (k : ℕ). tab F n ++ drop k d) (zero-add n)
 
 pub filled-copy : (d s : List ℕ) → filled d 0 (λ i. getD s i 0) (length s) ≡ s ++ drop (length s) d
 filled-copy d s = filled-front d _ (length s) ∙ ap (λ (l : List ℕ). l ++ drop (length s) d) (tab-getD s)
-
-pub filled-whole : (d : List ℕ) (F : ℕ → ℕ) → filled d 0 F (length d) ≡ tab F (length d)
-filled-whole d F = filled-front d F (length d) ∙ ap (λ (l : List ℕ). tab F (length d) ++ l) (drop-length d) ∙ append-nil (tab F (length d))

@@ -1,9 +1,11 @@
 -- The laws of the definitions.
+pub mod Order
 pub mod Field
 pub mod Width
 pub mod Generator
 pub mod Place
 pub mod Fill
+pub mod Verdict
 pub mod Limits
 pub mod Sum
 pub mod Linear
@@ -23,3 +25,4 @@ pub mod Demand3
 pub mod Pair
 pub mod Quotient
 pub mod Checks
+pub mod Refusals

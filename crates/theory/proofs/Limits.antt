@@ -18,20 +18,7 @@ use Rattle.defs.specs.declared.Verdict.{Verdict}
 use Rattle.defs.specs.declared.Verdict.the-variants.{Fine, Refused}
 use Rattle.theory.specs.Limits.{Distinct, Numbers, Limits}
 use Rattle.theory.proofs.Place.{least-none, least-all, none-high}
-
-pub or-false : (a b : Bool) → a || b ≡ false → (a ≡ false) × (b ≡ false)
-or-false true b e = (e, let z : _≡_ {A = ℕ} 0 1 = cc in absurd (omega arith))
-or-false false b e = (refl, e)
-
-pub refuse-fine : (b : Bool) (x : Refusal) (v : Verdict) → refuse b x v ≡ Fine → (b ≡ false) × (v ≡ Fine)
-unfolding refuse
-refuse-fine true x v e = let z : _≡_ {A = ℕ} 0 1 = cc in absurd (omega arith)
-refuse-fine false x v e = (refl, e)
-
-pub then-fine : (v v′ : Verdict) → andThen v v′ ≡ Fine → (v ≡ Fine) × (v′ ≡ Fine)
-unfolding andThen
-then-fine Fine v′ e = (refl, e)
-then-fine (Refused x) v′ e = let z : _≡_ {A = ℕ} 0 1 = cc in absurd (omega arith)
+use Rattle.theory.proofs.Verdict.{or-false, refuse-fine, then-fine}
 
 pub width-known : (m : ℕ) → isWidth m ≡ true → Width m
 width-known m e = two (eqb m 2) refl e
@@ -69,7 +56,7 @@ numbers-known m r k count e =
 pub count-small : {m r k count : ℕ} → Numbers m r k count → count ≤ longest
 count-small {m} {r} {k} {count} s = omega (arith, mul-le-mul-right count (s .r-pos))
 
-none-twice : (points : List ℕ) → length points ≤ firstTwice points → Distinct (length points) (λ i. getD points i 0)
+pub none-twice : (points : List ℕ) → length points ≤ firstTwice points → Distinct (length points) (λ i. getD points i 0)
 unfolding firstTwice
 none-twice points h i k l l′ =
     eqb-false _ _ (least-all _ k (ltb-false _ _ (least-all _ (length points) h k l′)) i l)
@@ -107,7 +94,7 @@ numbers-inside m r k count s =
       le-ltb (r * count) k (s .k-top),
     )
 
-all-low : (m : ℕ) (s : List ℕ) → Symbols m s → firstHigh m s ≡ length s
+pub all-low : (m : ℕ) (s : List ℕ) → Symbols m s → firstHigh m s ≡ length s
 unfolding firstHigh
 all-low m s h = least-none _ (length s) (λ j l. lt-leb (2 ^ m) (getD s j 0) (h j))
 

@@ -28,7 +28,8 @@
 //! # Calls
 //!
 //! The functions here are the proved functions of the archive `libplq.a`, on slices. Nothing need be checked before a
-//! call, no call panics on any input, and a refused call leaves every buffer as it was. Where several refusals hold,
+//! call, no call panics on any input, and a refused call leaves every buffer as it was. An answer of a newer archive that
+//! this crate does not know is a refusal too, [`Refusal::Unknown`]. Where several refusals hold,
 //! the one with the smallest [number](Refusal::number) is given; [`slip_read`] has an order of its own.
 //! No call allocates memory or has state, and all may be made from any number of threads.
 
@@ -36,10 +37,12 @@
 
 mod archive;
 mod refusal;
+mod word;
 
 pub use refusal::Refusal;
 
 use archive::c;
+use word::{done, header};
 
 /// The most symbols that a row has.
 pub const MAX_ROW: usize = 128;
@@ -249,16 +252,7 @@ pub fn slip_read(bytes: &[u8], points: &mut [u8], row: &mut [u8]) -> Result<Head
             row.len(),
         )
     };
-    let part = |shift: u32| usize::from((answer >> shift) as u8);
-    match Refusal::new(answer as u8, part(40)) {
-        Some(refusal) => Err(refusal),
-        None => Ok(Header {
-            m: part(8),
-            r: part(16),
-            count: part(24),
-            k: part(32),
-        }),
-    }
+    header(answer)
 }
 
 /// Reads a slip, decodes its row, and writes the line that the program slipread prints to the front of `text`.
@@ -282,13 +276,4 @@ pub fn slip_read(bytes: &[u8], points: &mut [u8], row: &mut [u8]) -> Result<Head
 pub fn line(slip: &[u8], text: &mut [u8]) -> Result<usize, Refusal> {
     // SAFETY: each pointer comes with the length of the slice it was taken from; `text` is borrowed alone.
     done(unsafe { c::plq_line(slip.as_ptr(), slip.len(), text.as_mut_ptr(), text.len()) })
-}
-
-/// The detail of a done call, or its refusal.
-fn done(answer: u64) -> Result<usize, Refusal> {
-    let detail = (answer >> 8) as usize;
-    match Refusal::new(answer as u8, detail) {
-        Some(refusal) => Err(refusal),
-        None => Ok(detail),
-    }
 }

@@ -3,7 +3,7 @@
 use std::error::Error;
 use std::fmt;
 
-/// Why a call was refused. Each reason has a [number](Refusal::number), 1 to 12; indices count from 0.
+/// Why a call was refused. Each reason has a [number](Refusal::number); indices count from 0.
 ///
 /// ```
 /// use plq::{encode, Code, Refusal};
@@ -50,11 +50,19 @@ pub enum Refusal {
     SlipEdition,
     /// 12: the slip is longer than its own size.
     SlipLong,
+    /// A number that this crate does not know: the archive is newer than the crate.
+    Unknown {
+        /// The number of the answer, above 12.
+        number: u8,
+        /// What the answer has for a detail.
+        detail: usize,
+    },
 }
 
 impl Refusal {
     /// The refusal with this number and detail, or none for number 0.
-    pub(crate) fn new(number: u8, index: usize) -> Option<Refusal> {
+    pub(crate) fn new(number: u8, detail: usize) -> Option<Refusal> {
+        let index = detail;
         Some(match number {
             0 => return None,
             1 => Refusal::Field,
@@ -69,11 +77,11 @@ impl Refusal {
             10 => Refusal::SlipShort,
             11 => Refusal::SlipEdition,
             12 => Refusal::SlipLong,
-            _ => unreachable!("the archive has no answer {number}"),
+            _ => Refusal::Unknown { number, detail },
         })
     }
 
-    /// The number of the refusal, 1 to 12, as the C functions and the program slipread give it.
+    /// The number of the refusal, as the C functions and the program slipread give it.
     pub fn number(self) -> u8 {
         match self {
             Refusal::Field => 1,
@@ -88,15 +96,17 @@ impl Refusal {
             Refusal::SlipShort => 10,
             Refusal::SlipEdition => 11,
             Refusal::SlipLong => 12,
+            Refusal::Unknown { number, .. } => number,
         }
     }
 
-    /// The index of numbers 5, 6 and 8, and 0 for all others.
+    /// The index of numbers 5, 6 and 8, what came with an unknown number, and 0 for all others.
     pub fn detail(self) -> usize {
         match self {
             Refusal::PointHigh { index }
             | Refusal::PointTwice { index }
             | Refusal::SymbolHigh { index } => index,
+            Refusal::Unknown { detail, .. } => detail,
             _ => 0,
         }
     }
@@ -117,6 +127,9 @@ impl fmt::Display for Refusal {
             Refusal::SlipShort => write!(out, "the slip is too short"),
             Refusal::SlipEdition => write!(out, "the slip is of another edition"),
             Refusal::SlipLong => write!(out, "the slip is too long"),
+            Refusal::Unknown { number, detail } => {
+                write!(out, "the unknown number {number}, detail {detail}")
+            }
         }
     }
 }

@@ -29,18 +29,27 @@ pub struct Made {
 /// A buffer with room for every line: 128 symbols of three digits and 128 depths with their spaces.
 const ROOMY_TEXT: usize = 800;
 
+/// How many of a hundred cases are of each kind.
+const SHARES: [(Kind, usize); Kind::ALL.len()] = [
+    (Kind::Encode, 12),
+    (Kind::Decode, 24),
+    (Kind::Distance, 7),
+    (Kind::SlipWrite, 9),
+    (Kind::SlipRead, 12),
+    (Kind::Line, 36),
+];
+
 /// Case `index` of the run with this seed.
 pub fn case(seed: u64, index: u64) -> Made {
     let mut random = Random::for_case(seed, index);
-    let kind = match random.below(100) {
-        0..12 => Kind::Encode,
-        12..36 => Kind::Decode,
-        36..43 => Kind::Distance,
-        43..52 => Kind::SlipWrite,
-        52..64 => Kind::SlipRead,
-        _ => Kind::Line,
-    };
-    of_kind(&mut random, kind)
+    let mut place = random.below(SHARES.iter().map(|(_, share)| share).sum());
+    for (kind, share) in SHARES {
+        if place < share {
+            return of_kind(&mut random, kind);
+        }
+        place -= share;
+    }
+    unreachable!("a place is below the sum of the shares")
 }
 
 fn of_kind(random: &mut Random, kind: Kind) -> Made {

@@ -52,7 +52,7 @@ fn written(random: &mut Random) -> Slip {
 }
 
 /// Random bytes, half of them behind a first byte that a slip could have.
-fn unwritten(random: &mut Random) -> Vec<u8> {
+pub fn unwritten(random: &mut Random) -> Vec<u8> {
     let count = match random.below(3) {
         0 => random.between(0, 4),
         1 => random.between(0, 60),
@@ -89,7 +89,7 @@ fn change(random: &mut Random, slip: &Slip, bytes: &mut Vec<u8>) {
 }
 
 /// Overwrites `width` bits from bit `at` on; bits behind the last byte are left out.
-fn set_bits(bytes: &mut [u8], at: usize, width: usize, number: usize) {
+pub fn set_bits(bytes: &mut [u8], at: usize, width: usize, number: usize) {
     for place in 0..width {
         let bit = at + place;
         let Some(byte) = bytes.get_mut(bit / 8) else {

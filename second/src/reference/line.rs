@@ -5,6 +5,15 @@ use super::decode::{find, Found};
 use super::refusal::Refusal;
 use super::slip::unpack;
 
+/// The numbers that a line can begin with: done, and every refusal of the reader and the decoder.
+pub const NUMBERS: [u8; 9] = [0, 1, 3, 4, 6, 9, 10, 11, 12];
+
+/// The number that a line begins with.
+pub fn number(text: &[u8]) -> usize {
+    let digits = text.iter().take_while(|byte| byte.is_ascii_digit());
+    digits.fold(0, |number, digit| 10 * number + usize::from(digit - b'0'))
+}
+
 /// The whole line with its newline.
 pub fn text(slip: &[u8]) -> String {
     match read_and_decode(slip) {

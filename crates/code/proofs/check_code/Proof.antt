@@ -10,9 +10,27 @@ use Rattle.code.proofs.check_code.Statement.{statement}
 use Rattle.code.proofs.check_code.Tie as tie
 
 -- the numbers have passed
-fine : (c : tie.After-enum-told)
-    → numbersVerdict (c .before .before .before .before .args .m) (c .before .before .before .before .args .r) (c .before .before .before .before .args .k) (length (c .before .before .before .before .args .points .now)) ≡ Fine
-fine c = sym (c .before .before .check-numbers .ensures) ∙ c .enum-told .given .1
+module _ (c : tie.After-enum-told) where
+  abbrev numbers : tie.After-check-numbers
+  numbers = c .before .before
+
+  abbrev start : tie.Start
+  start = numbers .before .before
+
+  fine : numbersVerdict (start .args .m) (start .args .r) (start .args .k) (length (start .args .points .now)) ≡ Fine
+  fine = sym (numbers .check-numbers .ensures) ∙ c .enum-told .given .1
+
+-- the points are looked through for the first time and for the second
+module _ (c : tie.After-first-high) where
+  abbrev told : tie.After-enum-told
+  told = c .before
+
+module _ (c : tie.After-first-twice) where
+  abbrev low : tie.Else1
+  low = c .before
+
+  abbrev sought : tie.After-first-high
+  sought = low .before
 
 check-numbers-requires : tie.Need-check-numbers-requires
 check-numbers-requires c κs = search needs
@@ -24,7 +42,9 @@ refused-requires : tie.Need-refused-requires
 refused-requires c κs = search needs
 
 returns : tie.Need-returns
-returns c = c .refused .ensures ∙ refused-numbers _ _ _ _ _ (sym (c .before .before .before .before .check-numbers .ensures) ∙ c .before .before .v .given .1)
+returns c =
+    let given = c .before .before in
+    c .refused .ensures ∙ refused-numbers _ _ _ _ _ (sym (given .before .before .check-numbers .ensures) ∙ given .v .given .1)
 
 enum-told : tie.Need-enum-told
 enum-told c = search needs
@@ -36,7 +56,9 @@ refused-requires-2 : tie.Need-refused-requires-2
 refused-requires-2 c κs = search needs
 
 returns-2 : tie.Need-returns-2
-returns-2 c = c .refused2 .ensures ∙ refused-high _ _ _ _ (fine (c .before .before .before)) _ (c .before .before .first-high .ensures) (c .before .if1 .taken)
+returns-2 c =
+    let at = c .before .before in
+    c .refused2 .ensures ∙ refused-high _ _ _ _ (fine (told at)) _ (at .first-high .ensures) (c .before .if1 .taken)
 
 first-twice-requires : tie.Need-first-twice-requires
 first-twice-requires c κs = search needs
@@ -45,13 +67,18 @@ refused-requires-3 : tie.Need-refused-requires-3
 refused-requires-3 c κs = search needs
 
 returns-3 : tie.Need-returns-3
-returns-3 c = c .refused3 .ensures ∙ refused-twice _ _ _ _ (fine (c .before .before .before .before .before)) _ (c .before .before .before .before .first-high .ensures) (c .before .before .before .if1 .left) _ (c .before .before .first-twice .ensures) (c .before .if2 .taken)
+returns-3 c =
+    let at = c .before .before in
+    c .refused3 .ensures
+    ∙ refused-twice _ _ _ _ (fine (told (sought at))) _ (sought at .first-high .ensures) (low at .if1 .left) _ (at .first-twice .ensures) (c .before .if2 .taken)
 
 pad-requires : tie.Need-pad-requires
-pad-requires c κs = count-small (numbers-known _ _ _ _ (fine (c .before .before .before .before)))
+pad-requires c κs = count-small (numbers-known _ _ _ _ (fine (told (sought (c .before)))))
 
 returns-4 : tie.Need-returns-4
-returns-4 c = passed _ _ _ _ (fine (c .before .before .before .before .before)) _ (c .before .before .before .before .first-high .ensures) (c .before .before .before .if1 .left) _ (c .before .before .first-twice .ensures) (c .before .if2 .left) _ (c .pad .ensures)
+returns-4 c =
+    let at = c .before .before in
+    passed _ _ _ _ (fine (told (sought at))) _ (sought at .first-high .ensures) (low at .if1 .left) _ (at .first-twice .ensures) (c .before .if2 .left) _ (c .pad .ensures)
 
 pub check-code-spec : {M : Type 1} → statement M
 check-code-spec =

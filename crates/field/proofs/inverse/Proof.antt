@@ -4,8 +4,8 @@ use borrow.Author.Needs.{needs}
 use Rattle.field.proofs.inverse.Statement.{statement}
 use Rattle.field.proofs.inverse.Tie as tie
 
-size-requires : tie.Need-size-requires
-size-requires c κs = search needs
+field-size-requires : tie.Need-field-size-requires
+field-size-requires c κs = search needs
 
 sub-exp : tie.Need-sub-exp
 sub-exp c = search needs
@@ -24,9 +24,9 @@ exp-requires c κs = search needs
 
 returns : tie.Need-returns
 returns c =
-    let e = rw (c .before .before .size .ensures) at (c .exp .ensures) in
+    let e = rw (c .before .before .field-size .ensures) at (c .exp .ensures) in
     inverse-of _ (c .before .before .before .pre .0) (c .before .log .ensures) e
 
 pub inverse-spec : {M : Type 1} → statement M
 inverse-spec =
-    tie.close (tie.spec size-requires sub-exp log-requires cast-exp sub-exp-2 exp-requires returns)
+    tie.close (tie.spec field-size-requires sub-exp log-requires cast-exp sub-exp-2 exp-requires returns)

@@ -4,6 +4,14 @@ use borrow.Author.Needs.{needs}
 use Rattle.field.proofs.mul.Statement.{statement}
 use Rattle.field.proofs.mul.Tie as tie
 
+-- where both logarithms are known
+module _ (c : tie.After-log2) where
+  abbrev first : tie.After-log
+  first = c .before
+
+  abbrev start : tie.Start
+  start = first .before .before .before
+
 log-requires : tie.Need-log-requires
 log-requires c κs = search needs
 
@@ -30,8 +38,8 @@ returns-2 c = zero-r _ _ _ (c .if2 .taken)
 
 returns-3 : tie.Need-returns-3
 returns-3 c =
-    product-of _ (c .before .before .before .before .before .pre .0) (c .before .before .log .ensures)
-    (c .before .log2 .ensures) (c .exp .ensures)
+    let logs = c .before in
+    product-of _ (start logs .pre .0) (first logs .log .ensures) (logs .log2 .ensures) (c .exp .ensures)
 
 pub mul-spec : {M : Type 1} → statement M
 mul-spec =

@@ -1,6 +1,7 @@
 -- `field::product_row` meets its contract: each turn doubles the part that is filled.
-use Prim.Native.Nat.{_-_}
+use Prim.Native.Nat.{_+_, _-_, _<_, _≤_}
 use native.Mathlib.Omega.{arith}
+use Rattle.defs.specs.Field.{Width}
 use Rattle.field.proofs.Doubling.{Filled, first-fill, next-fill, last-fill, room}
 use borrow.Author.Needs.{needs}
 use Rattle.field.proofs.product_row.Statement.{statement}
@@ -15,19 +16,30 @@ abbrev μ-loop : tie.MeasureT-loop
 loop-holds : tie.Need-loop-holds Inv-loop μ-loop
 loop-holds c = first-fill _ _ (c .pre .1)
 
+-- in a turn
+module _ (c : tie.In-loop Inv-loop μ-loop) where
+  abbrev at : tie.At-loop Inv-loop μ-loop
+  at = c .before
+
+  abbrev width : Width (at .before .args .m)
+  width = at .before .pre .0
+
+  abbrev below : at .loop .i < at .before .args .m
+  below = c .loop-test .taken
+
+  fits : at .loop .size + at .loop .size ≤ 256
+  fits = room _ _ width below (at .loop .inv)
+
 double-requires : tie.Need-double-requires Inv-loop μ-loop
-double-requires c κs =
-    let i = c .before .before .loop .inv in
-    (i .long, room _ _ (c .before .before .before .pre .0) (c .before .loop-test .taken) i)
+double-requires c κs = (at (c .before) .loop .inv .long, fits (c .before))
 
 times2-requires : tie.Need-times2-requires Inv-loop μ-loop
-times2-requires c κs = (c .before .before .before .before .pre .0, c .before .before .before .loop .inv .small-step)
+times2-requires c κs =
+    let turn = c .before .before in
+    (width turn, at turn .loop .inv .small-step)
 
 mul-size : tie.Need-mul-size Inv-loop μ-loop
-mul-size c =
-    let i = c .before .before .before .before .loop .inv in
-    let w = c .before .before .before .before .before .pre .0 in
-    omega (arith, room _ _ w (c .before .before .before .loop-test .taken) i)
+mul-size c = omega (arith, fits (c .before .before .before))
 
 add-i : tie.Need-add-i Inv-loop μ-loop
 add-i c = search needs
@@ -37,8 +49,8 @@ loop-less c = search needs
 
 loop-again : tie.Need-loop-again Inv-loop μ-loop
 loop-again c =
-    let i = c .before .before .before .before .loop .inv in
-    next-fill _ _ (c .before .before .before .loop-test .taken) i (c .before .double .ensures) (c .times2 .ensures)
+    let turn = c .before .before .before in
+    next-fill _ _ (below turn) (at turn .loop .inv) (c .before .double .ensures) (c .times2 .ensures)
 
 returns : tie.Need-returns Inv-loop μ-loop
 returns c = last-fill _ _ (c .loop-test .left) (c .before .loop .inv)

@@ -1,43 +1,44 @@
--- `field::times2` meets its contract: a shift, and the modulus where that sets bit m.
+-- `field::times2` meets its contract: below half the double is itself, and else the modulus is added.
 use native.Mathlib.Omega.{arith}
-use Rattle.defs.specs.Field as D
-use Rattle.theory.proofs.Width.{field-top}
-use Rattle.field.proofs.Twice.{twice-low, twice-high}
 use borrow.Author.Needs.{needs}
+use Rattle.theory.proofs.Width.{field-top}
+use Rattle.defs.specs.Field.{add}
+use Rattle.field.proofs.Twice.{rest-8, rest-small, doubled-low, doubled-high}
 use Rattle.field.proofs.times2.Statement.{statement}
 use Rattle.field.proofs.times2.Tie as tie
 
-mul-twice : tie.Need-mul-twice
-mul-twice c = search needs
+half-requires : tie.Need-half-requires
+half-requires c κs = search needs
 
-size-requires : tie.Need-size-requires
-size-requires c κs = search needs
-
-cast-result : tie.Need-cast-result
-cast-result c = omega (arith, field-top _ (c .before .before .pre .0))
+add-result : tie.Need-add-result
+add-result c = omega (arith, field-top _ (c .before .before .pre .0), c .before .half .ensures)
 
 returns : tie.Need-returns
-returns c = twice-low _ _ (rw (c .before .size .ensures) at (c .if1 .taken))
+returns c = doubled-low _ _ (c .before .half .ensures) (c .if1 .taken)
 
-modulus-requires : tie.Need-modulus-requires
-modulus-requires c κs = search needs
-
-cast-result-2 : tie.Need-cast-result-2
-unfolding D.add
-cast-result-2 c =
-    let s = c .before .before .before in
-    let l = c .before .if1 .left in
-    let e = twice-high _ _ (s .pre .0) (s .pre .1) (c .before .before .size .ensures) l (c .modulus .ensures) in
-    omega (arith, e .small, field-top _ (s .pre .0))
+add-result-2 : tie.Need-add-result-2
+add-result-2 c =
+    let st = c .before .before .before in
+    omega (arith, field-top _ (st .pre .0), st .pre .1, c .before .before .half .ensures)
 
 returns-2 : tie.Need-returns-2
-unfolding D.add
+unfolding add
 returns-2 c =
-    let s = c .before .before .before in
-    let l = c .before .if1 .left in
-    twice-high _ _ (s .pre .0) (s .pre .1) (c .before .before .size .ensures) l (c .modulus .ensures)
+    let st = c .before .before .before in
+    doubled-high _ _ 29 (st .pre .0) (c .before .before .half .ensures) (c .before .if1 .left) (st .pre .1) (rest-8 _ (c .if2 .taken))
+
+add-result-3 : tie.Need-add-result-3
+add-result-3 c =
+    let st = c .before .before .before in
+    omega (arith, field-top _ (st .pre .0), st .pre .1, c .before .before .half .ensures)
+
+returns-3 : tie.Need-returns-3
+unfolding add
+returns-3 c =
+    let st = c .before .before .before in
+    doubled-high _ _ 3 (st .pre .0) (c .before .before .half .ensures) (c .before .if1 .left) (st .pre .1) (rest-small _ (st .pre .0) (c .if2 .left))
 
 pub times2-spec : {M : Type 1} → statement M
 times2-spec =
     tie.close
-    (tie.spec mul-twice size-requires cast-result returns modulus-requires cast-result-2 returns-2)
+    (tie.spec half-requires add-result returns add-result-2 returns-2 add-result-3 returns-3)

@@ -1,5 +1,5 @@
 -- `put_all` writes each number behind a space; after i turns the first i are written.
-use Prim.Native.Nat.{_-_, _≤_}
+use Prim.Native.Nat.{ℕ, _-_, _≤_}
 use native.Mathlib.Omega.{arith}
 use lib.ListN.{length, take}
 use borrow.Author.Needs.{needs}
@@ -16,6 +16,14 @@ Inv-loop text₀ at s end₀ i₀ text end i = (i ≤ length s) × Wrote text₀
 abbrev μ-loop : tie.MeasureT-loop
 μ-loop text₀ at s end₀ i₀ text end i = length s - i
 
+-- where a number is looked at
+module _ (c : tie.In-loop Inv-loop μ-loop) where
+  abbrev start : tie.Start Inv-loop μ-loop
+  start = c .before .before .before .before
+
+  abbrev i : ℕ
+  i = c .before .loop .i
+
 loop-holds : tie.Need-loop-holds Inv-loop μ-loop
 unfolding spaced
 loop-holds c = (omega arith, wrote-none _ _)
@@ -24,10 +32,12 @@ shared-slice-read-put-spaced : tie.Need-shared-slice-read-put-spaced Inv-loop μ
 shared-slice-read-put-spaced c = search needs
 
 cast-put-spaced : tie.Need-cast-put-spaced Inv-loop μ-loop
-cast-put-spaced c = omega (arith, c .shared-slice-known2 .given (c .before .before .before .loop .i))
+cast-put-spaced c = omega (arith, c .shared-slice-known2 .given (i (c .before .before)))
 
 put-spaced-requires : tie.Need-put-spaced-requires Inv-loop μ-loop
-put-spaced-requires c κs = omega (arith, spaced-room (c .before .before .before .before .before .before .args .s .now) (c .before .before .before .loop .i) (omega arith))
+put-spaced-requires c κs =
+    let turn = c .before .before in
+    omega (arith, spaced-room (start turn .args .s .now) (i turn) (omega arith))
 
 add-i : tie.Need-add-i Inv-loop μ-loop
 add-i c = search needs
@@ -37,7 +47,9 @@ loop-less c = search needs
 
 loop-again : tie.Need-loop-again Inv-loop μ-loop
 loop-again c =
-    (omega arith, wrote-more _ (c .before .before .before .before .before .before .loop .i) (c .before .before .before .before .before .loop-test .taken) (c .before .before .before .before .before .before .loop .inv .1) (c .before .before .put-spaced .ensures))
+    let put = c .before .before in
+    let turn = put .before .before .before in
+    (omega arith, wrote-more _ (i turn) (turn .loop-test .taken) (turn .before .loop .inv .1) (put .put-spaced .ensures))
 
 same-length : tie.Need-same-length Inv-loop μ-loop
 same-length c = search needs

@@ -4,6 +4,11 @@ use Rattle.line.proofs.Pieces.{wrote-then}
 use Rattle.line.proofs.put_spaced.Statement.{statement}
 use Rattle.line.proofs.put_spaced.Tie as tie
 
+-- where the space is written
+module _ (c : tie.After-put-number-arg) where
+  abbrev space : tie.After-put
+  space = c .before .before .before
+
 put-requires : tie.Need-put-requires
 put-requires c κs = search needs
 
@@ -14,7 +19,9 @@ same-length : tie.Need-same-length
 same-length c = search needs
 
 returns : tie.Need-returns
-returns c = wrote-then _ _ (c .before .before .before .before .before .before .put .ensures) (c .before .before .put-number .ensures)
+returns c =
+    let number = c .before .before in
+    wrote-then _ _ (space (number .before) .put .ensures) (number .put-number .ensures)
 
 pub put-spaced-spec : {M : Type 1} → statement M
 put-spaced-spec = tie.close (tie.spec put-requires put-number-requires same-length returns)

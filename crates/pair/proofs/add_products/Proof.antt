@@ -4,7 +4,7 @@ use mathlib.Core.Path.{ap, ap₂}
 use native.Mathlib.Omega.{arith}
 use lib.ListN.{getD}
 use Rattle.defs.specs.Field.{add}
-use Rattle.solve.proofs.Free.{eq-lt}
+use Rattle.theory.proofs.Order.{eq-lt}
 use Rattle.pair.specs.Fill.{look, Span}
 use Rattle.pair.proofs.Spans.{span-none, span-more, span-all, span-before, span-behind}
 use borrow.Author.Needs.{needs}

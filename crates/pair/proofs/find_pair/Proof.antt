@@ -4,10 +4,10 @@ use mathlib.Core.Path.{refl}
 use native.Mathlib.Nat.{lt-of-lt-of-le}
 use native.Mathlib.Omega.{arith}
 use lib.ListN.{length}
+use Rattle.theory.proofs.Place.{zeros-zero}
 use Rattle.solve.specs.Table.{stride, tableSize, at}
 use Rattle.solve.specs.Answer.{IsFree}
 use Rattle.solve.proofs.Free.{told}
-use Rattle.pair.proofs.Systems.{getD-zeros}
 use Rattle.pair.proofs.Outcome.{Sizes, enough, short, sizes, found-pair, found-none}
 use borrow.Author.Needs.{needs}
 use Rattle.pair.proofs.find_pair.Statement.{statement}
@@ -27,20 +27,33 @@ module _ (c : tie.After-radius) where
   fitting : Sizes (length (start .args .row .now)) s₀ s₁
   fitting = sizes (start .pre .0) (start .pre .1) (c .radius .ensures)
 
+-- where the table has been brought to its stairs
+module _ (c : tie.After-eliminate) where
+  abbrev written : tie.After-write-system
+  written = c .before .before
+
+  abbrev sized : tie.After-radius
+  sized = written .before .before
+
 -- where the elimination has told the free unknown
 module _ (c : tie.After-c) where
   abbrev solved : tie.After-eliminate
   solved = c .before .before
 
-  abbrev sized : tie.After-radius
-  sized = solved .before .before .before .before
+  abbrev size : tie.After-radius
+  size = sized solved
 
-  is-free : IsFree (start sized .args .code .m) (length (start sized .args .row .now)) (s₀ sized + s₁ sized)
-      (at (solved .before .before .write-system .last .0)) (at (solved .eliminate .last .0)) (c .c .given .0 .0)
+  is-free : IsFree (start size .args .code .m) (length (start size .args .row .now)) (s₀ size + s₁ size)
+      (at (written solved .write-system .last .0)) (at (solved .eliminate .last .0)) (c .c .given .0 .0)
   is-free = told _ _ _ _ _ (c .c .given .1) (solved .eliminate .ensures .1)
 
   below : c .c .given .0 .0 < stride
-  below = lt-of-lt-of-le (is-free .below) (fitting sized .fits)
+  below = lt-of-lt-of-le (is-free .below) (fitting size .fits)
+
+-- where the coefficients of Q₀ have been read off
+module _ (c : tie.After-unknowns) where
+  abbrev freed : tie.After-c
+  freed = c .before .before .before
 
 add-s0 : tie.Need-add-s0
 add-s0 c = omega (arith, enough (c .before .pre .0) (c .before .pre .1), short (c .before .pre .0) (c .before .pre .1))
@@ -54,7 +67,7 @@ add-s1 c = omega (arith, fitting c .top₁)
 write-system-requires : tie.Need-write-system-requires
 write-system-requires c κs =
     let b = c .before in
-    (start b .pre .0, (start b .pre .1, ((refl, fitting b .small, fitting b .fits), getD-zeros tableSize)))
+    (start b .pre .0, (start b .pre .1, ((refl, fitting b .small, fitting b .fits), zeros-zero tableSize)))
 
 add-eliminate : tie.Need-add-eliminate
 add-eliminate c = omega (arith, fitting (c .before .before .before) .fits)
@@ -72,29 +85,30 @@ enum-told c = search needs
 
 returns : tie.Need-returns
 returns c =
-    let el = c .before .before in
-    let b = el .before .before .before .before in
-    found-none (start b .pre .0) (start b .pre .1) (b .radius .ensures) (el .before .before .write-system .ensures)
-    (told _ _ _ _ _ (c .enum-told .given .1) (el .eliminate .ensures .1))
+    let full = c .before .before in
+    let b = sized full in
+    found-none (start b .pre .0) (start b .pre .1) (b .radius .ensures) (written full .write-system .ensures)
+    (told _ _ _ _ _ (c .enum-told .given .1) (full .eliminate .ensures .1))
 
 unknowns-requires : tie.Need-unknowns-requires
 unknowns-requires c κs =
     let f = c .before .before in
-    let b = fitting (sized f) in
+    let b = fitting (size f) in
     (solved f .eliminate .ensures .0 .size, below f, omega arith, b .top₀)
 
 unknowns-requires-2 : tie.Need-unknowns-requires-2
 unknowns-requires-2 c κs =
-    let f = c .before .before .before .before in
-    let b = fitting (sized f) in
+    let f = freed (c .before) in
+    let b = fitting (size f) in
     (solved f .eliminate .ensures .0 .size, below f, b .fits, b .top₁)
 
 returns-2 : tie.Need-returns-2
 returns-2 c =
-    let f = c .before .before .before .before .before in
-    let b = sized f in
-    found-pair (start b .pre .0) (start b .pre .1) (b .radius .ensures) (solved f .before .before .write-system .ensures) (is-free f)
-    (c .before .before .unknowns .ensures) (c .unknowns2 .ensures)
+    let read = c .before .before in
+    let f = freed read in
+    let b = size f in
+    found-pair (start b .pre .0) (start b .pre .1) (b .radius .ensures) (written (solved f) .write-system .ensures) (is-free f)
+    (read .unknowns .ensures) (c .unknowns2 .ensures)
 
 pub find-pair-spec : {M : Type 1} → statement M
 find-pair-spec =

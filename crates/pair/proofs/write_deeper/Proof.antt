@@ -4,8 +4,8 @@ use mathlib.Core.Path.{_≡_, sym, ap, ap₂, _∙_}
 use native.Mathlib.Omega.{arith}
 use lib.ListN.{getD}
 use Rattle.defs.specs.Field.{add}
+use Rattle.theory.proofs.Order.{eq-lt}
 use Rattle.theory.proofs.Field.{add-lt}
-use Rattle.solve.proofs.Free.{eq-lt}
 use Rattle.pair.specs.Equation.{deeper}
 use Rattle.pair.specs.Fill.{look, Span}
 use Rattle.pair.proofs.Spans.{span-none, span-more, span-all, span-before, deeper-first, deeper-next}

@@ -16,22 +16,30 @@ Inv-loop t₀ m point to r n products j₀ t j =
 abbrev μ-loop : tie.MeasureT-loop
 μ-loop t₀ m point to r n products j₀ t j = r - j
 
--- where the loop begins: the multiples of the point, the powers written, and the depths that a turn starts with
-module _ (c : tie.At-loop Inv-loop μ-loop) where
+-- where the multiples of the point are known
+module _ (c : tie.After-product-row Inv-loop μ-loop) where
   abbrev start : tie.Start Inv-loop μ-loop
-  start = c .before .before .before .before .before
+  start = c .before
 
-  products-are : Products (start .args .m) (start .args .point) (c .before .before .before .before .product-row .result)
-  products-are = c .before .before .before .before .product-row .ensures
+  products-are : Products (start .args .m) (start .args .point) (c .product-row .result)
+  products-are = c .product-row .ensures
 
-  depths : Powers (start .args .m) (start .args .point) (start .args .to) (c .loop .j) (start .args .n) (start .args .t .now) (c .loop .t)
-  depths = c .loop .inv .2 _ (powers-first products-are (start .pre .0) (c .before .write-powers .ensures))
+-- where a turn begins: the powers are written, and some depths below them
+module _ (c : tie.At-loop Inv-loop μ-loop) where
+  abbrev multiplied : tie.After-product-row Inv-loop μ-loop
+  multiplied = c .before .before .before .before
+
+  abbrev begun : tie.Start Inv-loop μ-loop
+  begun = start multiplied
+
+  depths : Powers (begun .args .m) (begun .args .point) (begun .args .to) (c .loop .j) (begun .args .n) (begun .args .t .now) (c .loop .t)
+  depths = c .loop .inv .2 _ (powers-first (products-are multiplied) (begun .pre .0) (c .before .write-powers .ensures))
 
 product-row-requires : tie.Need-product-row-requires Inv-loop μ-loop
 product-row-requires c κs = search needs
 
 write-powers-requires : tie.Need-write-powers-requires Inv-loop μ-loop
-write-powers-requires c κs = (all-bytes (c .before .before .before .pre .0) (c .before .before .product-row .ensures), omega arith)
+write-powers-requires c κs = (all-bytes (start (c .before .before) .pre .0) (products-are (c .before .before)), omega arith)
 
 loop-holds : tie.Need-loop-holds Inv-loop μ-loop
 loop-holds c = (omega arith, omega arith, λ s w. w)
@@ -47,8 +55,8 @@ sub-write-deeper c = search needs
 
 write-deeper-requires : tie.Need-write-deeper-requires Inv-loop μ-loop
 write-deeper-requires c κs =
-    let al = c .before .before .before in
-    (all-bytes (depths al .shape) (products-are al), (omega arith, omega arith))
+    let at = c .before .before .before in
+    (all-bytes (depths at .shape) (products-are (multiplied at)), (omega arith, omega arith))
 
 add-j : tie.Need-add-j Inv-loop μ-loop
 add-j c = search needs
@@ -58,8 +66,8 @@ loop-less c = search needs
 
 loop-again : tie.Need-loop-again Inv-loop μ-loop
 loop-again c =
-    let al = c .before .before .before .before in
-    (omega arith, omega arith, λ s w. powers-more (products-are al) (al .loop .j) (omega arith) (start al .pre .1 .3) (al .loop .inv .2 s w) (c .write-deeper .ensures))
+    let at = c .before .before .before .before in
+    (omega arith, omega arith, λ s w. powers-more (products-are (multiplied at)) (at .loop .j) (omega arith) (begun at .pre .1 .3) (at .loop .inv .2 s w) (c .write-deeper .ensures))
 
 returns : tie.Need-returns Inv-loop μ-loop
 returns c = powers-all (c .before .loop .inv .1) (c .loop-test .left) (depths (c .before))

@@ -4,12 +4,13 @@ use mathlib.Core.Path.{_≡_, _∙_}
 use native.Mathlib.Omega.{arith}
 use lib.ListN.{length, getD}
 use Rattle.theory.specs.Limits.{Numbers}
+use Rattle.theory.proofs.Order.{eq-lt}
 use Rattle.theory.proofs.Limits.{count-small}
 use Rattle.code.specs.Checked.{pointsOf}
 use Rattle.solve.specs.Table.{stride}
-use Rattle.solve.proofs.Free.{eq-lt}
 use Rattle.pair.specs.Fill.{System}
-use Rattle.pair.proofs.Systems.{code-numbers, code-symbols, code-point, zero-shape, chunk-fits, chunk-next, part-length, part-symbols, system-none, system-more, system-all}
+use Rattle.code.proofs.Known.{code-numbers, code-symbols, code-point}
+use Rattle.pair.proofs.Systems.{zero-shape, chunk-fits, chunk-next, chunk-symbols, system-none, system-more, system-all}
 use borrow.Author.Needs.{needs}
 use Rattle.pair.proofs.write_system.Statement.{statement}
 use Rattle.pair.proofs.write_system.Tie as tie
@@ -35,40 +36,37 @@ module _ (c : tie.In-loop Inv-loop μ-loop) where
   within : c .before .loop .p + start .args .t2 .r ≤ length (start .args .row .now)
   within = omega (arith, ends, start .pre .1 .0 .size)
 
+-- where a turn has its chunk
+module _ (c : tie.After-chunk-of Inv-loop μ-loop) where
+  abbrev turn : tie.In-loop Inv-loop μ-loop
+  turn = c .before
+
 loop-holds : tie.Need-loop-holds Inv-loop μ-loop
 loop-holds c =
     let st = c .before in
     (omega arith, omega arith, system-none (zero-shape _ (code-numbers (st .pre .0) .width) (st .pre .1 .1 .0 .0) (st .pre .1 .1 .1)), λ k l. st .pre .1 .1 .1 k)
 
-add-q : tie.Need-add-q Inv-loop μ-loop
-add-q c = omega (arith, ends c, numbers c .row-top)
+chunk-of-requires : tie.Need-chunk-of-requires Inv-loop μ-loop
+chunk-of-requires c κs = (numbers c .r-top, within c)
 
 element-copy-out-write-chunk : tie.Need-element-copy-out-write-chunk Inv-loop μ-loop
-element-copy-out-write-chunk c = omega (arith, count-small (numbers (c .before)))
-
-sub-write-chunk : tie.Need-sub-write-chunk Inv-loop μ-loop
-sub-write-chunk c = search needs
-
-part-write-chunk-start : tie.Need-part-write-chunk-start Inv-loop μ-loop
-part-write-chunk-start c = search needs
-
-part-write-chunk-end : tie.Need-part-write-chunk-end Inv-loop μ-loop
-part-write-chunk-end c = within (c .before .before)
+element-copy-out-write-chunk c = omega (arith, count-small (numbers (turn (c .before))))
 
 write-chunk-requires : tie.Need-write-chunk-requires Inv-loop μ-loop
 write-chunk-requires c κs =
-    let il = c .before .before .before in
+    let taken = c .before .before in
+    let il = turn taken in
     let st = start il in
-    let al = il .before .loop in
-    let size = part-length (st .args .row .now) (al .p) (st .args .t2 .r) (within il) in (
+    let al = il .before .loop in (
       al .inv .2 .shape,
       (
-        part-symbols (st .args .row .now) (al .p) (st .args .t2 .r) _ (st .pre .1 .0 .symbols),
+        chunk-symbols _ _ _ (st .args .row .now) (taken .chunk-of .ensures) (st .pre .1 .0 .symbols),
         (
           (
             eq-lt (code-point (st .pre .0) (al .i) (il .loop-test .taken)) (code-symbols (st .pre .0) (al .i)),
-            omega (arith, size, numbers il .r-pos),
-            omega (arith, size, ends il, numbers il .row-top),
+            numbers il .r-pos,
+            numbers il .r-top,
+            omega (arith, ends il, numbers il .row-top),
             st .pre .1 .1 .0 .1,
             st .pre .1 .1 .0 .2,
           ),
@@ -76,6 +74,11 @@ write-chunk-requires c κs =
         ),
       ),
     )
+
+add-p : tie.Need-add-p Inv-loop μ-loop
+add-p c =
+    let il = turn (c .before .before .before) in
+    omega (arith, ends il, numbers il .row-top)
 
 add-i : tie.Need-add-i Inv-loop μ-loop
 add-i c = search needs
@@ -85,15 +88,15 @@ loop-less c = search needs
 
 loop-again : tie.Need-loop-again Inv-loop μ-loop
 loop-again c =
-    let il = c .before .before .before .before in
+    let taken = c .before .before .before in
+    let il = turn taken in
     let st = start il in
     let al = il .before .loop in
-    let size = part-length (st .args .row .now) (al .p) (st .args .t2 .r) (within il) in
     let C = c .write-chunk .ensures in (
       omega arith,
       chunk-next _ _ _ (al .inv .1),
-      system-more (st .pre .1 .1 .0 .2) (al .inv .1) (code-point (st .pre .0) (al .i) (il .loop-test .taken)) (within il) (al .inv .2) C,
-      λ k l. C .after k (omega (arith, size)) ∙ al .inv .3 k (omega arith),
+      system-more (st .pre .1 .1 .0 .2) (al .inv .1) (code-point (st .pre .0) (al .i) (il .loop-test .taken)) (taken .chunk-of .ensures) (al .inv .2) C,
+      λ k l. C .after k (omega arith) ∙ al .inv .3 k (omega arith),
     )
 
 returns : tie.Need-returns Inv-loop μ-loop
@@ -106,12 +109,10 @@ write-system-spec =
     Inv-loop
     μ-loop
     loop-holds
-    add-q
+    chunk-of-requires
     element-copy-out-write-chunk
-    sub-write-chunk
-    part-write-chunk-start
-    part-write-chunk-end
     write-chunk-requires
+    add-p
     add-i
     loop-less
     loop-again

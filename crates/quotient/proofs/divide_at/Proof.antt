@@ -4,6 +4,19 @@ use Rattle.quotient.proofs.Division.{divided}
 use Rattle.quotient.proofs.divide_at.Statement.{statement}
 use Rattle.quotient.proofs.divide_at.Tie as tie
 
+-- where the coefficient is known
+module _ (c : tie.After-mul) where
+  abbrev start : tie.Start
+  start = c .before .before .before .before
+
+-- where its multiples are to be taken off
+module _ (c : tie.After-take-off-arg) where
+  abbrev listed : tie.After-product-row
+  listed = c .before .before
+
+  abbrev known : tie.After-mul
+  known = listed .before
+
 sub-mul : tie.Need-sub-mul
 sub-mul c = search needs
 
@@ -14,7 +27,7 @@ slice-read-mul : tie.Need-slice-read-mul
 slice-read-mul c = search needs
 
 mul-requires : tie.Need-mul-requires
-mul-requires c κs = (c .before .before .before .pre .width, (c .before .before .before .pre .dividend _, c .before .before .before .pre .inverse))
+mul-requires c κs = let given = c .before .before .before .pre in (given .width, (given .dividend _, given .inverse))
 
 product-row-requires : tie.Need-product-row-requires
 product-row-requires c κs = search needs
@@ -27,8 +40,9 @@ same-length c = search needs
 
 returns : tie.Need-returns
 returns c =
-    divided _ _ _ _ _ _ _ _ _ (c .before .before .before .before .before .before .before .before .before .before .pre) (c .before .before .before .before .before .before .mul .ensures)
-    (c .before .before .before .before .before .product-row .ensures) (c .before .before .take-off .ensures)
+    let t = c .before .before in
+    let a = t .before in
+    divided _ _ _ _ _ _ _ _ _ (start (known a) .pre) (known a .mul .ensures) (listed a .product-row .ensures) (t .take-off .ensures)
 
 pub divide-at-spec : {M : Type 1} → statement M
 divide-at-spec =

@@ -44,7 +44,9 @@ loop-less : tie.Need-loop-less Inv-loop μ-loop
 loop-less c = search needs
 
 loop-again : tie.Need-loop-again Inv-loop μ-loop
-loop-again c = (search needs, off-more _ _ _ _ _ _ (omega (arith, c .before .before .before .before .before .pre .1 .room)) (c .before .before .before .before .loop .inv .1))
+loop-again c =
+    let h = c .before .before .before .before in
+    (search needs, off-more _ _ _ _ _ _ (omega (arith, h .before .pre .1 .room)) (h .loop .inv .1))
 
 same-length : tie.Need-same-length Inv-loop μ-loop
 same-length c = search needs

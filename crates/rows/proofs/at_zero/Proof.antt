@@ -4,7 +4,7 @@ use mathlib.Core.Path.{ap, _∙_}
 use native.Mathlib.Nat.{zero-add}
 use native.Mathlib.Omega.{arith}
 use lib.ListN.{getD}
-use Rattle.rows.proofs.Chunks.{chunk-short, chunk-same}
+use Rattle.code.proofs.Chunks.{chunk-short, chunk-same}
 use borrow.Author.Needs.{needs}
 use Rattle.rows.proofs.at_zero.Statement.{statement}
 use Rattle.rows.proofs.at_zero.Tie as tie

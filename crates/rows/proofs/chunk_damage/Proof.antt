@@ -7,6 +7,11 @@ use borrow.Author.Needs.{needs}
 use Rattle.rows.proofs.chunk_damage.Statement.{statement}
 use Rattle.rows.proofs.chunk_damage.Tie as tie
 
+-- where the first chunk is taken out
+module _ (c : tie.After-chunk-of) where
+  abbrev start : tie.Start
+  start = c .before .before .before
+
 mul-at : tie.Need-mul-at
 mul-at c = search needs
 
@@ -20,12 +25,15 @@ agree-requires : tie.Need-agree-requires
 agree-requires c κs = search needs
 
 sub-result : tie.Need-sub-result
-sub-result c = omega (arith, c .agree .ensures, agree-le (c .before .before .before .before .before .args .r) (λ j. getD (c .before .before .chunk-of .result) j 0) (λ j. getD (c .before .chunk-of2 .result) j 0))
+sub-result c =
+    let x = c .before .before in
+    omega (arith, c .agree .ensures, agree-le (start x .args .r) (λ j. getD (x .chunk-of .result) j 0) (λ j. getD (c .before .chunk-of2 .result) j 0))
 
 returns : tie.Need-returns
 returns c =
-    let a = c .before .before .before .before .before .args in
-    damage-found (a .r) (a .a .now) (a .b .now) (a .i) _ _ _ (c .before .before .chunk-of .ensures) (c .before .chunk-of2 .ensures) (c .agree .ensures)
+    let x = c .before .before in
+    let a = start x .args in
+    damage-found (a .r) (a .a .now) (a .b .now) (a .i) _ _ _ (x .chunk-of .ensures) (c .before .chunk-of2 .ensures) (c .agree .ensures)
 
 pub chunk-damage-spec : {M : Type 1} → statement M
 chunk-damage-spec =

@@ -1,7 +1,9 @@
 -- `coefficient` meets its contract: the terms below the power i are added.
-use Prim.Native.Nat.{_+_, _-_, _%_, _/_}
+use Prim.Native.Nat.{ℕ, _+_, _-_, _%_, _/_, _<_}
 use native.Mathlib.Omega.{arith}
+use lib.ListN.{getD}
 use lib.Pow.{pow-pos}
+use Rattle.rows.specs.Tables.{places}
 use Rattle.rows.proofs.Lookup.{order-top}
 use Rattle.rows.proofs.Hasse.{Added, Stepped, stepped, added-first, place-fits, term-byte, added-more, added-last}
 use borrow.Author.Needs.{needs}
@@ -14,11 +16,36 @@ Inv-loop m point j step message symbols powers parities size k sum₀ e₀ i₀ 
 abbrev μ-loop : tie.MeasureT-loop
 μ-loop m point j step message symbols powers parities size k sum₀ e₀ i₀ sum e i = k - i
 
--- the next exponent
-on : (c : tie.After-sum3 Inv-loop μ-loop) →
-    let n = c .before .before .before .before .loop .e + c .before .before .before .before .before .before .before .args .step in
-    Stepped (c .before .before .before .before .before .before .before .args .m) (c .before .before .before .before .loop .e) (c .before .before .before .before .before .before .before .args .step) (n % c .before .before .before .before .before .field-size .result + n / c .before .before .before .before .before .field-size .result)
-on c = stepped _ (c .before .before .before .before .before .before .before .pre .width) _ _ (c .before .before .before .before .loop .inv .exponent) (c .before .before .before .before .before .before .before .pre .logarithm .below) _ (c .before .before .before .before .before .field-size .ensures)
+-- at the loop's head
+module _ (c : tie.At-loop Inv-loop μ-loop) where
+  abbrev sized : tie.After-field-size Inv-loop μ-loop
+  sized = c .before
+
+  abbrev start : tie.Start Inv-loop μ-loop
+  start = sized .before .before
+
+-- where the symbol's logarithm is read
+module _ (c : tie.After-sum2 Inv-loop μ-loop) where
+  abbrev head : tie.At-loop Inv-loop μ-loop
+  head = c .before .before .before
+
+  fits : getD (start head .args .symbols .now) (head .loop .i) 0 + head .loop .e < places
+  fits = place-fits _ _ _ _ _ _ _ _ (start head .pre) _ _ _ (head .loop .inv) (omega arith)
+
+-- where the power is read
+module _ (c : tie.After-sum3 Inv-loop μ-loop) where
+  abbrev h : tie.At-loop Inv-loop μ-loop
+  h = head (c .before)
+
+  abbrev size : ℕ
+  size = sized h .field-size .result
+
+  some-size : 0 < size
+  some-size = omega (arith, sized h .field-size .ensures, pow-pos (start h .args .m))
+
+  -- the next exponent
+  on : let n = h .loop .e + start h .args .step in Stepped (start h .args .m) (h .loop .e) (start h .args .step) (n % size + n / size)
+  on = stepped _ (start h .pre .width) _ _ (h .loop .inv .exponent) (start h .pre .logarithm .below) _ (sized h .field-size .ensures)
 
 field-size-requires : tie.Need-field-size-requires Inv-loop μ-loop
 field-size-requires c κs = search needs
@@ -42,25 +69,27 @@ element-copy-out-sum-2 : tie.Need-element-copy-out-sum-2 Inv-loop μ-loop
 element-copy-out-sum-2 c = search needs
 
 add-sum-2 : tie.Need-add-sum-2 Inv-loop μ-loop
-add-sum-2 c = omega (arith, place-fits _ _ _ _ _ _ _ _ (c .before .before .before .before .before .before .pre) _ _ _ (c .before .before .before .loop .inv) (omega arith))
+add-sum-2 c = omega (arith, fits c)
 
 element-copy-out-sum-3 : tie.Need-element-copy-out-sum-3 Inv-loop μ-loop
-element-copy-out-sum-3 c = place-fits _ _ _ _ _ _ _ _ (c .before .before .before .before .before .before .pre) _ _ _ (c .before .before .before .loop .inv) (omega arith)
+element-copy-out-sum-3 c = fits c
 
 mul-sum-3 : tie.Need-mul-sum-3 Inv-loop μ-loop
-mul-sum-3 c = record { fits = term-byte _ _ _ _ _ _ _ _ (c .before .before .before .before .before .before .before .pre) _ _ _ (c .before .before .before .before .loop .inv) (omega arith) }
+mul-sum-3 c = record { fits = term-byte _ _ _ _ _ _ _ _ (start (h c) .pre) _ _ _ (h c .loop .inv) (omega arith) }
 
 add-next : tie.Need-add-next Inv-loop μ-loop
-add-next c = omega (arith, order-top _ (c .before .before .before .before .before .before .before .pre .width), c .before .before .before .before .before .before .before .pre .logarithm .below, c .before .before .before .before .loop .inv .exponent)
+add-next c =
+    let given = start (h c) .pre in
+    omega (arith, order-top _ (given .width), given .logarithm .below, h c .loop .inv .exponent)
 
 rem-e : tie.Need-rem-e Inv-loop μ-loop
-rem-e c = omega (arith, c .before .before .before .before .before .field-size .ensures, pow-pos (c .before .before .before .before .before .before .before .args .m))
+rem-e c = omega (arith, some-size c)
 
 div-e : tie.Need-div-e Inv-loop μ-loop
-div-e c = omega (arith, c .before .before .before .before .before .field-size .ensures, pow-pos (c .before .before .before .before .before .before .before .args .m))
+div-e c = omega (arith, some-size c)
 
 add-e : tie.Need-add-e Inv-loop μ-loop
-add-e c = omega (arith, order-top _ (c .before .before .before .before .before .before .before .pre .width), on c .below)
+add-e c = omega (arith, order-top _ (start (h c) .pre .width), on c .below)
 
 add-i : tie.Need-add-i Inv-loop μ-loop
 add-i c = search needs
@@ -69,10 +98,10 @@ loop-less : tie.Need-loop-less Inv-loop μ-loop
 loop-less c = search needs
 
 loop-again : tie.Need-loop-again Inv-loop μ-loop
-loop-again c = added-more _ _ _ _ _ _ _ _ (c .before .before .before .before .before .before .before .pre) _ _ _ (c .before .before .before .before .loop .inv) (omega arith) _ (on c)
+loop-again c = added-more _ _ _ _ _ _ _ _ (start (h c) .pre) _ _ _ (h c .loop .inv) (omega arith) _ (on c)
 
 returns : tie.Need-returns Inv-loop μ-loop
-returns c = added-last _ _ _ _ _ _ _ _ (c .before .before .before .before .pre) _ _ _ (c .before .loop .inv) (c .loop-test .left)
+returns c = added-last _ _ _ _ _ _ _ _ (start (c .before) .pre) _ _ _ (c .before .loop .inv) (c .loop-test .left)
 
 pub coefficient-spec : {M : Type 1} → statement M
 coefficient-spec =

@@ -3,7 +3,7 @@ use Prim.Native.Nat.{_-_, _≤_}
 use mathlib.Core.Path.{_≡_, _∙_}
 use native.Mathlib.Omega.{arith}
 use Rattle.defs.specs.Row.{coefficient}
-use Rattle.rows.proofs.Chunks.{begun, chunk-first, chunk-more, chunk-last}
+use Rattle.code.proofs.Chunks.{begun, chunk-first, chunk-more, chunk-last}
 use Rattle.rows.proofs.Hasse.{one-coefficient, zero-chunk}
 use borrow.Author.Needs.{needs}
 use Rattle.rows.proofs.evaluate.Statement.{statement}
@@ -14,6 +14,14 @@ Inv-loop m r point message symbols logs powers parities step chunk₀ j₀ chunk
 
 abbrev μ-loop : tie.MeasureT-loop
 μ-loop m r point message symbols logs powers parities step chunk₀ j₀ chunk j = r - j
+
+-- at the loop's head
+module _ (c : tie.At-loop Inv-loop μ-loop) where
+  abbrev other : tie.Else1 Inv-loop μ-loop
+  other = c .before .before
+
+  abbrev start : tie.Start Inv-loop μ-loop
+  start = other .before .before
 
 at-zero-requires : tie.Need-at-zero-requires Inv-loop μ-loop
 at-zero-requires c κs = c .before .before .pre .depth
@@ -31,7 +39,7 @@ loop-holds : tie.Need-loop-holds Inv-loop μ-loop
 loop-holds c = (omega arith, chunk-first _)
 
 coefficient-requires : tie.Need-coefficient-requires Inv-loop μ-loop
-coefficient-requires c κs = one-coefficient (c .before .before .before .before .before .pre) (c .before .before .before .if1 .left) (omega arith)
+coefficient-requires c κs = let h = c .before in one-coefficient (start h .pre) (other h .if1 .left) (omega arith)
 
 array-write-chunk : tie.Need-array-write-chunk Inv-loop μ-loop
 array-write-chunk c = search needs
@@ -43,7 +51,9 @@ loop-less : tie.Need-loop-less Inv-loop μ-loop
 loop-less c = search needs
 
 loop-again : tie.Need-loop-again Inv-loop μ-loop
-loop-again c = (omega arith, chunk-more _ _ _ _ (omega (arith, c .before .before .before .before .before .before .pre .depth)) (c .before .before .loop .inv .1) (c .coefficient .ensures))
+loop-again c =
+    let h = c .before .before in
+    (omega arith, chunk-more _ _ _ _ (omega (arith, start h .pre .depth)) (h .loop .inv .1) (c .coefficient .ensures))
 
 returns-2 : tie.Need-returns-2 Inv-loop μ-loop
 returns-2 c = chunk-last _ _ _ _ (c .before .loop .inv .1) (omega arith) (omega arith)

@@ -1,8 +1,9 @@
-use Rattle.theory.proofs.Generator.{one-lt}
 -- `logs` meets its contract: the powers below i have their logarithms.
-use Prim.Native.Nat.{_-_, _<_}
+use Prim.Native.Nat.{_-_, _^_, _<_}
+use mathlib.Core.Path.{_≡_}
 use native.Mathlib.Omega.{arith}
 use lib.ListN.{getD}
+use Rattle.theory.proofs.Generator.{one-lt}
 use Rattle.rows.proofs.Lookup.{Logged, entry-byte, order-top, logs-first, logs-more, logs-last}
 use borrow.Author.Needs.{needs}
 use Rattle.rows.proofs.logs.Statement.{statement}
@@ -14,9 +15,25 @@ Inv-loop m powers order table₀ i₀ table i = Logged m i table
 abbrev μ-loop : tie.MeasureT-loop
 μ-loop m powers order table₀ i₀ table i = order - i
 
--- the power that is read is an index of the table
-byte : (c : tie.After-table Inv-loop μ-loop) → getD (c .before .before .before .before .args .powers .now) (c .before .before .loop .i) 0 < 256
-byte c = entry-byte _ (c .before .before .before .before .pre .0) _ (c .before .before .before .before .pre .1) _ (omega (arith, c .before .before .before .field-size .ensures))
+-- at the loop's head
+module _ (c : tie.At-loop Inv-loop μ-loop) where
+  abbrev start : tie.Start Inv-loop μ-loop
+  start = c .before .before
+
+  size : c .before .field-size .result ≡ 2 ^ start .args .m
+  size = c .before .field-size .ensures
+
+-- where a power is read
+module _ (c : tie.After-table Inv-loop μ-loop) where
+  abbrev head : tie.At-loop Inv-loop μ-loop
+  head = c .before .before
+
+  low : head .loop .i < 2 ^ start head .args .m - 1
+  low = omega (arith, size head)
+
+  -- it is an index of the table
+  byte : getD (start head .args .powers .now) (head .loop .i) 0 < 256
+  byte = entry-byte _ (start head .pre .0) _ (start head .pre .1) _ low
 
 field-size-requires : tie.Need-field-size-requires Inv-loop μ-loop
 field-size-requires c κs = search needs
@@ -28,7 +45,7 @@ loop-holds : tie.Need-loop-holds Inv-loop μ-loop
 loop-holds c = logs-first _ (c .before .pre .0)
 
 element-copy-out-table : tie.Need-element-copy-out-table Inv-loop μ-loop
-element-copy-out-table c = omega (arith, order-top _ (c .before .before .before .pre .0), c .before .before .field-size .ensures)
+element-copy-out-table c = let h = c .before in omega (arith, order-top _ (start h .pre .0), size h)
 
 cast-table : tie.Need-cast-table Inv-loop μ-loop
 cast-table c = omega (arith, byte c)
@@ -46,10 +63,12 @@ loop-less : tie.Need-loop-less Inv-loop μ-loop
 loop-less c = search needs
 
 loop-again : tie.Need-loop-again Inv-loop μ-loop
-loop-again c = logs-more _ (c .before .before .before .before .pre .0) _ _ _ (c .before .before .loop .inv) (omega (arith, c .before .before .before .field-size .ensures)) (c .before .before .before .before .pre .1 .at _ (omega (arith, c .before .before .before .field-size .ensures)))
+loop-again c =
+    let given = start (head c) .pre in
+    logs-more _ (given .0) _ _ _ (head c .loop .inv) (low c) (given .1 .at _ (omega (arith, low c)))
 
 returns : tie.Need-returns Inv-loop μ-loop
-returns c = logs-last _ (c .before .before .before .pre .0) _ _ (c .before .loop .inv) (omega (arith, c .before .before .field-size .ensures))
+returns c = let h = c .before in logs-last _ (start h .pre .0) _ _ (h .loop .inv) (omega (arith, size h))
 
 pub logs-spec : {M : Type 1} → statement M
 logs-spec =

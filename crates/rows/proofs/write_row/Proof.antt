@@ -1,8 +1,12 @@
 -- `write_row` meets its contract: the chunks of the first i points are written.
-use Prim.Native.Nat.{_-_}
+use Prim.Native.Nat.{_+_, _-_, _<_, _≤_}
 use native.Mathlib.Omega.{arith}
-use lib.ListN.{take}
-use Rattle.rows.proofs.Writing.{Progress, progress-first, width, short, depth-top, count-top, room-top, chunk-fits, evaluable, written-more, written-last}
+use lib.ListN.{length, take}
+use Rattle.theory.specs.Limits.{Numbers}
+use Rattle.theory.proofs.Limits.{count-small}
+use Rattle.code.proofs.Known.{code-numbers}
+use Rattle.rows.specs.Chunk.{Writable}
+use Rattle.rows.proofs.Writing.{Progress, progress-first, short, room-top, chunk-fits, evaluable, written-more, written-last}
 use borrow.Author.Needs.{needs}
 use Rattle.rows.proofs.write_row.Statement.{statement}
 use Rattle.rows.proofs.write_row.Tie as tie
@@ -13,54 +17,97 @@ Inv-loop message row₀ points m r count parities powers logs symbols at₀ i₀
 abbrev μ-loop : tie.MeasureT-loop
 μ-loop message row₀ points m r count parities powers logs symbols at₀ i₀ row at i = count - i
 
+-- where the parities are made
+module _ (c : tie.After-parities Inv-loop μ-loop) where
+  abbrev start : tie.Start Inv-loop μ-loop
+  start = c .before .before .before .before
+
+  abbrev given : Writable (start .args .code) (start .args .message .now) (start .args .row .now)
+  given = start .pre
+
+  numbers : Numbers (start .args .code .m) (start .args .code .r) (start .args .code .k) (start .args .code .count)
+  numbers = code-numbers (given .code)
+
+-- where all tables are made
+module _ (c : tie.After-message-logs Inv-loop μ-loop) where
+  abbrev powered : tie.After-powers2 Inv-loop μ-loop
+  powered = c .before .before .before
+
+  abbrev begun : tie.After-parities Inv-loop μ-loop
+  begun = powered .before .before
+
+-- where a chunk is to be made
+module _ (c : tie.After-parities2 Inv-loop μ-loop) where
+  abbrev turn : tie.In-loop Inv-loop μ-loop
+  turn = c .before .before .before .before
+
+-- where the chunk is written, and the turn ends
+module _ (c : tie.After-slice-known2 Inv-loop μ-loop) where
+  abbrev stored : tie.After-store Inv-loop μ-loop
+  stored = c .before .before
+
+  abbrev made : tie.After-evaluate Inv-loop μ-loop
+  made = stored .before .before
+
+-- in a turn of the loop
+module _ (c : tie.In-loop Inv-loop μ-loop) where
+  abbrev tables : tie.After-message-logs Inv-loop μ-loop
+  tables = c .before .before
+
+  few : c .before .loop .i < start (begun tables) .args .code .count
+  few = c .loop-test .taken
+
+  fits : c .before .loop .at + start (begun tables) .args .code .r ≤ length (start (begun tables) .args .row .now)
+  fits = chunk-fits _ _ _ (given (begun tables)) _ _ (c .before .loop .inv .at-is) few
+
 parities-requires : tie.Need-parities-requires Inv-loop μ-loop
 parities-requires c κs = search needs
 
 powers-requires : tie.Need-powers-requires Inv-loop μ-loop
-powers-requires c κs = width _ _ _ (c .before .before .before .before .pre)
+powers-requires c κs = numbers c .width
 
 logs-requires : tie.Need-logs-requires Inv-loop μ-loop
-logs-requires c κs = (width _ _ _ (c .before .before .before .before .before .before .pre), c .before .powers .ensures)
+logs-requires c κs = (numbers (c .before .before) .width, c .before .powers .ensures)
 
 message-logs-requires : tie.Need-message-logs-requires Inv-loop μ-loop
-message-logs-requires c κs = ((c .before .before .before .before .before .before .before .before .pre .message .symbols, short _ _ _ (c .before .before .before .before .before .before .before .before .pre)), c .before .logs .ensures)
+message-logs-requires c κs = let b = given (c .before .before .before .before) in ((b .message .symbols, short _ _ _ b), c .before .logs .ensures)
 
 loop-holds : tie.Need-loop-holds Inv-loop μ-loop
 loop-holds c = progress-first _ _ _ _ _
 
 array-read-evaluate : tie.Need-array-read-evaluate Inv-loop μ-loop
-array-read-evaluate c = omega (arith, c .loop-test .taken, count-top _ _ _ (c .before .before .before .before .before .before .before .before .before .before .before .pre))
+array-read-evaluate c = omega (arith, few c, count-small (numbers (begun (tables c))))
 
 evaluate-requires : tie.Need-evaluate-requires Inv-loop μ-loop
 evaluate-requires c κs =
-    evaluable _ _ _ (c .before .before .before .before .before .before .before .before .before .before .before .before .before .before .before .pre) _ _ _ _ (c .before .before .before .before .before .before .message-logs .ensures) (c .before .before .before .before .before .before .before .before .logs .ensures) (c .before .before .before .before .before .before .before .before .before .before .powers .ensures) (c .before .before .before .before .before .before .before .before .before .before .before .parities .ensures) _ (c .before .before .before .before .loop-test .taken)
+    let t = tables (turn c) in
+    let b = begun t in
+    evaluable _ _ _ (given b) _ _ _ _ (t .message-logs .ensures) (t .before .before .logs .ensures) (powered t .before .powers .ensures) (b .parities .ensures) _ (few (turn c))
 
 store-requires : tie.Need-store-requires Inv-loop μ-loop
 store-requires c κs =
-    let given = c .before .before .before .before .before .before .before .before .before .before .before .before .before .before .before .before .before .pre in
-    let p = c .before .before .before .before .before .before .before .loop .inv in
-    (depth-top _ _ _ given, omega (arith, chunk-fits _ _ _ given _ _ (p .at-is) (c .before .before .before .before .before .before .loop-test .taken), p .long))
+    let t = turn (c .before .before) in
+    (numbers (begun (tables t)) .r-top, omega (arith, fits t, t .before .loop .inv .long))
 
 add-at : tie.Need-add-at Inv-loop μ-loop
-add-at c =
-    let given = c .before .before .before .before .before .before .before .before .before .before .before .before .before .before .before .before .before .before .before .before .pre in
-    omega (arith, chunk-fits _ _ _ given _ _ (c .before .before .before .before .before .before .before .before .before .before .loop .inv .at-is) (c .before .before .before .before .before .before .before .before .before .loop-test .taken), room-top _ _ _ given)
+add-at c = let t = turn (made c .before) in omega (arith, fits t, room-top _ _ _ (given (begun (tables t))))
 
 add-i : tie.Need-add-i Inv-loop μ-loop
-add-i c = omega (arith, count-top _ _ _ (c .before .before .before .before .before .before .before .before .before .before .before .before .before .before .before .before .before .before .before .before .pre), c .before .before .before .before .before .before .before .before .before .loop-test .taken)
+add-i c = let t = turn (made c .before) in omega (arith, few t, count-small (numbers (begun (tables t))))
 
 loop-less : tie.Need-loop-less Inv-loop μ-loop
 loop-less c = search needs
 
 loop-again : tie.Need-loop-again Inv-loop μ-loop
 loop-again c =
-    written-more _ _ _ (c .before .before .before .before .before .before .before .before .before .before .before .before .before .before .before .before .before .before .before .before .pre) _ _ _ _ _ (c .before .before .before .before .before .before .before .before .before .before .loop .inv) (c .before .before .before .before .before .before .before .before .before .loop-test .taken) (c .before .before .before .before .evaluate .ensures) (c .before .before .store .ensures)
+    let t = turn (made c .before) in
+    written-more _ _ _ (given (begun (tables t))) _ _ _ _ _ (t .before .loop .inv) (few t) (made c .evaluate .ensures) (stored c .store .ensures)
 
 same-length : tie.Need-same-length Inv-loop μ-loop
 same-length c = search needs
 
 returns : tie.Need-returns Inv-loop μ-loop
-returns c = written-last _ _ _ (c .before .before .before .before .before .before .before .before .before .before .before .pre) _ _ _ (c .before .loop .inv) (c .loop-test .left)
+returns c = written-last _ _ _ (given (begun (c .before .before))) _ _ _ (c .before .loop .inv) (c .loop-test .left)
 
 pub write-row-spec : {M : Type 1} → statement M
 write-row-spec =

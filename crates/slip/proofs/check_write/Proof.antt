@@ -2,6 +2,7 @@
 use mathlib.Core.Path.{sym, _∙_}
 use native.Mathlib.Omega.{arith}
 use borrow.Author.Needs.{needs}
+use Rattle.defs.specs.Field.{Width}
 use Rattle.defs.specs.Limits.{Inside}
 use Rattle.theory.proofs.Limits.{inside-known}
 use Rattle.code.proofs.Outcome.{verdict-is}
@@ -10,8 +11,24 @@ use Rattle.slip.proofs.Writer.{inside-width, refused-code, refused-row,
 use Rattle.slip.proofs.check_write.Statement.{statement}
 use Rattle.slip.proofs.check_write.Tie as tie
 
-inside : (c : tie.After-enum-told) → Inside (c .before .before .before .before .before .args .m) (c .before .before .before .before .before .args .r) (c .before .before .before .before .before .args .k) (c .before .before .before .before .before .args .points .now)
-inside c = sym (verdict-is _ _ _ _ _ (c .before .before .check-code .ensures)) ∙ c .enum-told .given .1
+-- where the code is inside the limits
+module _ (c : tie.After-enum-told) where
+  abbrev checked : tie.After-check-code
+  checked = c .before .before
+
+  abbrev start : tie.Start
+  start = checked .before .before .before
+
+  inside : Inside (start .args .m) (start .args .r) (start .args .k) (start .args .points .now)
+  inside = sym (verdict-is _ _ _ _ _ (checked .check-code .ensures)) ∙ c .enum-told .given .1
+
+  width : Width (start .args .m)
+  width = inside-width _ _ _ _ inside
+
+-- where the row has its length, and the slip's size is known
+module _ (c : tie.After-slip-size) where
+  abbrev whole : tie.Else1
+  whole = c .before
 
 check-code-requires : tie.Need-check-code-requires
 check-code-requires c κs = search needs
@@ -36,17 +53,22 @@ add-slip-size c = search needs
 
 slip-size-requires : tie.Need-slip-size-requires
 slip-size-requires c κs =
-    let a = c .before .before .before .before .before .before .args in
-    (width-top _ (inside-width _ _ _ _ (inside (c .before))), few _ _ _ (a .points .now) (a .row .now) (inside (c .before)) (c .if1 .left))
+    let t = c .before in
+    (width-top _ (width t), few _ _ _ (start t .args .points .now) (start t .args .row .now) (inside t) (c .if1 .left))
 
 returns-3 : tie.Need-returns-3
-returns-3 c = refused-size _ _ _ _ _ _ (inside (c .before .before .before)) (c .before .before .if1 .left) (rw (c .before .slip-size .ensures) at (c .if2 .taken))
+returns-3 c =
+    let w = whole (c .before) in
+    refused-size _ _ _ _ _ _ (inside (w .before)) (w .if1 .left) (rw (c .before .slip-size .ensures) at (c .if2 .taken))
 
 check-symbols-requires : tie.Need-check-symbols-requires
-check-symbols-requires c κs = inside-width _ _ _ _ (inside (c .before .before .before))
+check-symbols-requires c κs = width (whole (c .before) .before)
 
 returns-4 : tie.Need-returns-4
-returns-4 c = by-symbols _ _ _ _ _ _ (inside (c .before .before .before .before)) (c .before .before .before .if1 .left) (rw (c .before .before .slip-size .ensures) at (c .before .if2 .left)) _ (c .check-symbols .ensures)
+returns-4 c =
+    let room = c .before in
+    let w = whole (room .before) in
+    by-symbols _ _ _ _ _ _ (inside (w .before)) (w .if1 .left) (rw (room .before .slip-size .ensures) at (room .if2 .left)) _ (c .check-symbols .ensures)
 
 pub check-write-spec : {M : Type 1} → statement M
 check-write-spec =

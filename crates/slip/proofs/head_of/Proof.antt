@@ -1,9 +1,32 @@
 -- `head_of` meets its contract: each field out of the number of three bytes.
+use Prim.Native.Nat.{ℕ, _+_, _*_}
+use mathlib.Core.Path.{_≡_}
+use mathlib.Core.List.{List}
 use native.Mathlib.Omega.{arith}
 use borrow.Author.Needs.{needs}
+use Rattle.defs.specs.Slip.{allBits, numberAt}
 use Rattle.slip.proofs.HeaderBits.{heads, head-number}
 use Rattle.slip.proofs.head_of.Statement.{statement}
 use Rattle.slip.proofs.head_of.Tie as tie
+
+-- where three bytes were read
+module _ (c : tie.After-wide3) where
+  abbrev second : tie.After-wide2
+  second = c .before .before
+
+  abbrev first : tie.After-wide
+  first = second .before .before
+
+  abbrev known : tie.After-shared-slice-known
+  known = first .before .before
+
+  abbrev bytes : List ℕ
+  bytes = known .before .args .bytes .now
+
+  number : (first .wide .result * 256 + second .wide2 .result) * 256 + c .wide3 .result ≡ numberAt 24 0 (allBits 8 bytes)
+  number =
+      head-number bytes (λ i. omega (arith, known .shared-slice-known .given i)) _ _ _
+      (first .wide .ensures .0) (second .wide2 .ensures .0) (c .wide3 .ensures .0)
 
 shared-slice-read-wide : tie.Need-shared-slice-read-wide
 shared-slice-read-wide c = search needs
@@ -35,6 +58,9 @@ wide-requires-3 c κs = search needs
 add-h-2 : tie.Need-add-h-2
 add-h-2 c = search needs
 
+width-of-requires : tie.Need-width-of-requires
+width-of-requires c κs = search needs
+
 add-r : tie.Need-add-r
 add-r c = search needs
 
@@ -44,15 +70,8 @@ add-count c = search needs
 add-k : tie.Need-add-k
 add-k c = search needs
 
-shl-t17 : tie.Need-shl-t17
-shl-t17 c = search needs
-
 returns : tie.Need-returns
-returns c =
-    let bytes = c .before .before .before .before .before .before .before .args .bytes .now in
-    heads bytes _
-    (rw (c .before .before .before .before .wide .ensures .0, c .before .before .wide2 .ensures .0, c .wide3 .ensures .0)
-    (head-number bytes (λ i. omega (arith, c .before .before .before .before .before .before .shared-slice-known .given i))))
+returns c = heads _ _ _ (number (c .before)) (c .width-of .ensures)
 
 pub head-of-spec : {M : Type 1} → statement M
 head-of-spec =
@@ -68,8 +87,8 @@ head-of-spec =
     shared-slice-read-wide-3
     wide-requires-3
     add-h-2
+    width-of-requires
     add-r
     add-count
     add-k
-    shl-t17
     returns)

@@ -4,6 +4,9 @@ use Rattle.slip.proofs.header.Statement.{statement}
 use Rattle.slip.proofs.HeaderBits.{header-number}
 use Rattle.slip.proofs.header.Tie as tie
 
+field-code-requires : tie.Need-field-code-requires
+field-code-requires c κs = search needs
+
 add-result : tie.Need-add-result
 add-result c = search needs
 
@@ -38,12 +41,13 @@ mul-result-4 : tie.Need-mul-result-4
 mul-result-4 c = search needs
 
 returns : tie.Need-returns
-returns c = header-number _ _ _ _ (c .pre)
+returns c = rw (c .field-code .ensures .0) (header-number _ _ _ _ (c .before .pre))
 
 pub header-spec : {M : Type 1} → statement M
 header-spec =
     tie.close
     (tie.spec
+    field-code-requires
     add-result
     mul-result
     sub-result

@@ -1,16 +1,42 @@
 -- `read_symbol` meets its contract: what is behind the symbol in its byte is divided away, what is before it is cut off.
-use Prim.Native.Nat.{_*_, _<_, _≤_}
+use Prim.Native.Nat.{ℕ, _*_, _<_, _≤_}
 use native.Mathlib.Nat.{mul-le-mul, mod-lt, lt-of-lt-of-le}
 use native.Mathlib.Omega.{arith}
 use lib.Pow.{pow-pos}
 use borrow.Author.Needs.{needs}
+use Rattle.defs.specs.Field.{Width}
+use Rattle.defs.specs.Limits.{longest}
 use Rattle.theory.proofs.Width.{width-pos, width-top, field-top}
 use Rattle.slip.proofs.Packed.{inside-byte, symbol-in-byte}
 use Rattle.slip.proofs.read_symbol.Statement.{statement}
 use Rattle.slip.proofs.read_symbol.Tie as tie
 
-small : (c : tie.Start) → c .args .m * c .args .j ≤ 2048
-small c = mul-le-mul {n₂ = 8} {m₂ = 256} (width-top _ (c .pre .0)) (omega (arith, c .pre .1))
+-- where the function begins
+module _ (c : tie.Start) where
+  abbrev m : ℕ
+  m = c .args .m
+
+  width : Width m
+  width = c .pre .0
+
+  small : m * c .args .j ≤ 8 * (2 * longest)
+  small = mul-le-mul {n₂ = 8} {m₂ = 2 * longest} (width-top _ width) (omega (arith, c .pre .1))
+
+-- where the symbol's byte was read
+module _ (c : tie.After-wide) where
+  abbrev known : tie.After-shared-slice-known
+  known = c .before .before
+
+  abbrev start : tie.Start
+  start = known .before
+
+-- where the field's size is known
+module _ (c : tie.After-field-size) where
+  abbrev begun : tie.Start
+  begun = start (c .before)
+
+  pos : 0 < c .field-size .result
+  pos = omega (arith, c .field-size .ensures, pow-pos (m begun))
 
 mul-place : tie.Need-mul-place
 mul-place c = omega (arith, small (c .before))
@@ -19,16 +45,18 @@ add-place : tie.Need-add-place
 add-place c = omega (arith, small (c .before))
 
 shared-slice-read-wide : tie.Need-shared-slice-read-wide
-shared-slice-read-wide c = omega (arith, width-pos _ (c .before .before .pre .0), c .before .before .pre .2)
+shared-slice-read-wide c =
+    let s = c .before .before in
+    omega (arith, width-pos _ (width s), s .pre .2)
 
 wide-requires : tie.Need-wide-requires
 wide-requires c κs = search needs
 
 sub-result : tie.Need-sub-result
-sub-result c = width-top _ (c .before .before .before .pre .0)
+sub-result c = width-top _ (width (start c))
 
 sub-result-2 : tie.Need-sub-result-2
-sub-result-2 c = omega (arith, inside-byte (c .before .before .before .args .j) _ (c .before .before .before .pre .0))
+sub-result-2 c = omega (arith, inside-byte (start c .args .j) _ (width (start c)))
 
 shr-result : tie.Need-shr-result
 shr-result c = search needs
@@ -37,20 +65,19 @@ field-size-requires : tie.Need-field-size-requires
 field-size-requires c κs = search needs
 
 rem-result : tie.Need-rem-result
-rem-result c = omega (arith, c .field-size .ensures, pow-pos (c .before .before .before .before .args .m))
+rem-result c = omega (arith, pos c)
 
 cast-result : tie.Need-cast-result
 cast-result c =
-    let pre = c .before .before .before .before .pre in
-    let b : c .field-size .result ≤ 256 = omega (arith, c .field-size .ensures, field-top _ (pre .0)) in
-    let p : 0 < c .field-size .result = omega (arith, c .field-size .ensures, pow-pos (c .before .before .before .before .args .m)) in
-    record { fits = lt-of-lt-of-le (mod-lt _ p) b }
+    let top : c .field-size .result ≤ 256 = omega (arith, c .field-size .ensures, field-top _ (width (begun c))) in
+    record { fits = lt-of-lt-of-le (mod-lt _ (pos c)) top }
 
 returns : tie.Need-returns
 returns c =
-    let a = c .before .before .before .before .args in
-    rw (c .field-size .ensures, c .before .wide .ensures .0)
-    (symbol-in-byte (a .m) (a .j) (a .bytes .now) (c .before .before .before .before .pre .0) (λ i. omega (arith, c .before .before .before .shared-slice-known .given i)))
+    let b = c .before in
+    let s = start b in
+    rw (c .field-size .ensures, b .wide .ensures .0)
+    (symbol-in-byte (m s) (s .args .j) (s .args .bytes .now) (width s) (λ i. omega (arith, known b .shared-slice-known .given i)))
 
 pub read-symbol-spec : {M : Type 1} → statement M
 read-symbol-spec =

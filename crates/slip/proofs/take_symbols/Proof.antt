@@ -6,6 +6,7 @@ use native.Mathlib.Omega.{arith}
 use lib.ListN.{length, length-set}
 use borrow.Author.Needs.{needs}
 use Rattle.defs.specs.Slip.{allBits, numberAt}
+use Rattle.slip.specs.Head.{Holds}
 use Rattle.theory.specs.Fill.{filled}
 use Rattle.theory.proofs.Fill.{filled-none, filled-next}
 use Rattle.slip.proofs.Front.{symbols-filled}
@@ -18,23 +19,38 @@ Inv-loop m bytes past n out₀ i₀ out i = (i ≤ n) × (length out ≡ length 
 abbrev μ-loop : tie.MeasureT-loop
 μ-loop m bytes past n out₀ i₀ out i = n - i
 
+-- at the loop's head
+module _ (c : tie.At-loop Inv-loop μ-loop) where
+  abbrev start : tie.Start Inv-loop μ-loop
+  start = c .before .before .before
+
+  abbrev m : ℕ
+  m = start .args .m
+
+  abbrev symbolAt : ℕ → ℕ
+  symbolAt j = numberAt m (24 + m * (start .args .past + j)) (allBits 8 (start .args .bytes .now))
+
+  held : Holds (start .args .bytes .now) m (start .args .past) (start .args .n)
+  held = start .pre .0
+
 loop-holds : tie.Need-loop-holds Inv-loop μ-loop
 loop-holds c = (omega arith, refl, filled-none _ _ _)
 
 add-read-symbol : tie.Need-add-read-symbol Inv-loop μ-loop
-add-read-symbol c = omega (arith, c .before .before .before .before .pre .0 .few)
+add-read-symbol c = omega (arith, held (c .before) .few)
 
 read-symbol-requires : tie.Need-read-symbol-requires Inv-loop μ-loop
 read-symbol-requires c κs =
-    let pre = c .before .before .before .before .pre in
-    let a = c .before .before .before .before .args in (
-      pre .0 .width,
-      omega (arith, pre .0 .few),
-      omega (arith, pre .0 .enough, mul-suc (a .m) (a .past + c .before .loop .i), mul-le-mul-left {m = suc (a .past + c .before .loop .i)} {n = a .past + a .n} (a .m) (omega arith)),
+    let at = c .before in
+    let h = held at in
+    let j = start at .args .past + at .loop .i in (
+      h .width,
+      omega (arith, h .few),
+      omega (arith, h .enough, mul-suc (m at) j, mul-le-mul-left {m = suc j} {n = start at .args .past + start at .args .n} (m at) (omega arith)),
     )
 
 slice-write-out : tie.Need-slice-write-out Inv-loop μ-loop
-slice-write-out c = omega (arith, c .before .before .before .before .before .pre .1)
+slice-write-out c = omega (arith, start (c .before .before) .pre .1)
 
 add-i : tie.Need-add-i Inv-loop μ-loop
 add-i c = search needs
@@ -44,12 +60,11 @@ loop-less c = search needs
 
 loop-again : tie.Need-loop-again Inv-loop μ-loop
 loop-again c =
-    let a = c .before .before .before .before .before .args in
-    let F : ℕ → ℕ = λ j. numberAt (a .m) (24 + a .m * (a .past + j)) (allBits 8 (a .bytes .now)) in
-    let at = c .before .before .loop in (
+    let at = c .before .before in (
       omega arith,
-      simp length-set (at .inv .1),
-      rw (at .inv .2, c .read-symbol .ensures) (filled-next (a .out .now) F (at .i) (omega (arith, c .before .before .before .before .before .pre .1))),
+      simp length-set (at .loop .inv .1),
+      rw (at .loop .inv .2, c .read-symbol .ensures)
+          (filled-next (start at .args .out .now) (symbolAt at) (at .loop .i) (omega (arith, start at .pre .1))),
     )
 
 same-length : tie.Need-same-length Inv-loop μ-loop
@@ -57,12 +72,12 @@ same-length c = c .before .loop .inv .1
 
 returns : tie.Need-returns Inv-loop μ-loop
 returns c =
-    let a = c .before .before .before .before .args in
-    let F : ℕ → ℕ = λ j. numberAt (a .m) (24 + a .m * (a .past + j)) (allBits 8 (a .bytes .now)) in
-    let e : c .before .loop .i ≡ a .n = omega arith in
-    c .before .loop .inv .2
-    ∙ ap (λ (n : ℕ). filled (a .out .now) 0 F n) e
-    ∙ symbols-filled (a .m) (a .bytes .now) (a .past) (a .n) (a .out .now) (c .before .before .before .before .pre .0 .m-is)
+    let at = c .before in
+    let a = start at .args in
+    let e : at .loop .i ≡ a .n = omega arith in
+    at .loop .inv .2
+    ∙ ap (λ (n : ℕ). filled (a .out .now) 0 (symbolAt at) n) e
+    ∙ symbols-filled (a .m) (a .bytes .now) (a .past) (a .n) (a .out .now) (held at .m-is)
 
 pub take-symbols-spec : {M : Type 1} → statement M
 take-symbols-spec =

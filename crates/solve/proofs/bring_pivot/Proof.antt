@@ -24,10 +24,23 @@ inverse-requires c κs =
     let st = c .before in
     (st .pre .0 .width, (st .pre .0 .symbols _, st .pre .1 .1 .0 .found (st .pre .1 .0 .0)))
 
+-- the pivot's inverse is known
+module _ (c : tie.After-inverse) where
+  abbrev start : tie.Start
+  start = c .before .before
+
+-- the pivot's row is scaled
+module _ (c : tie.After-add-row) where
+  abbrev inverted : tie.After-inverse
+  inverted = c .before .before
+
+  abbrev begun : tie.Start
+  begun = start inverted
+
 add-row-requires : tie.Need-add-row-requires
 unfolding add
 add-row-requires c κs =
-    let st = c .before .before .before in
+    let st = start (c .before) in
     let bounds = st .pre .1 .0 in (
       st .pre .0,
       (
@@ -40,11 +53,9 @@ returns : tie.Need-returns
 unfolding add
 returns c =
     let ad = c .before in
-    let iv = ad .before .before in
-    let st = iv .before .before in
-    let pre = st .pre in
+    let pre = begun ad .pre in
     let A = ad .add-row .ensures .1 in
-    let e = iv .inverse .ensures .unit in (
+    let e = inverted ad .inverse .ensures .unit in (
       ad .add-row .ensures .0,
       (
         scaled-alike _ _ _ _ _ _ _ _ A e,
@@ -56,15 +67,13 @@ add-row-requires-2 : tie.Need-add-row-requires-2
 unfolding add
 add-row-requires-2 c κs =
     let ad = c .before .before in
-    let iv = ad .before .before in
-    let st = iv .before .before in
-    let pre = st .pre in
-    let bounds = st .pre .1 .0 in (
+    let pre = begun ad .pre in
+    let bounds = pre .1 .0 in (
       ad .add-row .ensures .0,
       (
         (one-lt _ (pre .0 .width), omega (arith, pre .1 .1 .0 .from), omega arith, omega arith, bounds .3),
         λ j l.
-            stairs-one _ _ _ _ (bounds .2) _ _ (pre .1 .1 .1) (pre .1 .1 .0) (bounds .0) (pre .0 .symbols _) (iv .inverse .ensures .unit) (ad .add-row .ensures .1)
+            stairs-one _ _ _ _ (bounds .2) _ _ (pre .1 .1 .1) (pre .1 .1 .0) (bounds .0) (pre .0 .symbols _) (inverted ad .inverse .ensures .unit) (ad .add-row .ensures .1)
             .none _ j (bounds .0) l (omega (arith, pre .1 .1 .0 .from)),
       ),
     )
@@ -72,18 +81,16 @@ add-row-requires-2 c κs =
 returns-2 : tie.Need-returns-2
 unfolding add
 returns-2 c =
-    let el = c .before .before in
-    let ad = el .before in
-    let iv = ad .before .before in
-    let st = iv .before .before in
-    let pre = st .pre in
+    let elsewhere = c .before .before in
+    let ad = elsewhere .before in
+    let pre = begun ad .pre in
     let A = ad .add-row .ensures .1 in
     let B = c .add-row2 .ensures .1 in
-    let e = iv .inverse .ensures .unit in (
+    let e = inverted ad .inverse .ensures .unit in (
       c .add-row2 .ensures .0,
       (
-        alike-trans _ _ _ (scaled-alike _ _ _ _ _ _ _ _ A e) (added-alike _ _ _ _ _ _ _ _ B (λ w. el .if1 .left (sym w)) (pre .1 .0 .0)),
-        leads-added _ _ _ _ (pre .1 .0 .2) _ _ (pre .1 .1 .1) (pre .1 .1 .0) (pre .1 .0 .0) (pre .0 .symbols _) e A (one-lt _ (pre .0 .width)) (el .if1 .left) B,
+        alike-trans _ _ _ (scaled-alike _ _ _ _ _ _ _ _ A e) (added-alike _ _ _ _ _ _ _ _ B (λ w. elsewhere .if1 .left (sym w)) (pre .1 .0 .0)),
+        leads-added _ _ _ _ (pre .1 .0 .2) _ _ (pre .1 .1 .1) (pre .1 .1 .0) (pre .1 .0 .0) (pre .0 .symbols _) e A (one-lt _ (pre .0 .width)) (elsewhere .if1 .left) B,
       ),
     )
 

@@ -20,6 +20,14 @@ Inv-loop t₀ m rows cols c start w i₀ t i =
 abbrev μ-loop : tie.MeasureT-loop
 μ-loop t₀ m rows cols c start w i₀ t i = rows - i
 
+-- where a turn begins
+module _ (c : tie.At-loop Inv-loop μ-loop) where
+  abbrev made : tie.After-multiples Inv-loop μ-loop
+  made = c .before
+
+  abbrev begun : tie.Start Inv-loop μ-loop
+  begun = made .before .before
+
 sub-start : tie.Need-sub-start Inv-loop μ-loop
 sub-start c = search needs
 
@@ -47,13 +55,14 @@ element-copy-out-f c = search needs
 
 add-multiple-requires : tie.Need-add-multiple-requires Inv-loop μ-loop
 add-multiple-requires c κs =
-    let al = c .before .before .before .before .before in
-    let pre = al .before .before .before .pre in
-    let v = al .loop .inv in (
-      (v .2, al .before .multiples .ensures .0),
+    let turn = c .before .before .before in
+    let at = turn .before .before in
+    let bounds = begun at .pre .1 .0 in
+    let v = at .loop .inv in (
+      (v .2, made at .multiples .ensures .0),
       (
-        (v .2 .symbols _, omega arith, omega arith, omega arith, pre .1 .0 .3),
-        (v .5, λ j l. v .4 .stairs .none _ j (pre .1 .0 .0) (omega arith) (omega arith)),
+        (v .2 .symbols _, omega arith, omega arith, omega arith, bounds .3),
+        (v .5, λ j l. v .4 .stairs .none _ j (bounds .0) (omega arith) (omega arith)),
       ),
     )
 
@@ -65,9 +74,9 @@ loop-less c = search needs
 
 loop-again : tie.Need-loop-again Inv-loop μ-loop
 loop-again c =
-    let al = c .before .before .before in
-    let st = al .before .before .before in
-    let v = al .loop .inv in
+    let at = c .before .before .before in
+    let st = begun at in
+    let v = at .loop .inv in
     ⊎-elim
     (λ w.
     let A = w .3 .ensures .1 in

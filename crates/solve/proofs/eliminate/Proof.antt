@@ -1,5 +1,5 @@
 -- `solve::eliminate` meets its contract.
-use Prim.Native.Nat.{_-_, _≤_}
+use Prim.Native.Nat.{_-_, _<_, _≤_}
 use native.Mathlib.Omega.{arith}
 use borrow.Author.Needs.{needs}
 use Rattle.theory.proofs.Generator.{one-lt}
@@ -16,6 +16,27 @@ Inv-loop t₀ m rows cols c₀ t c = (c ≤ cols) × (c ≤ rows) × Shape m t �
 abbrev μ-loop : tie.MeasureT-loop
 μ-loop t₀ m rows cols c₀ t c = cols - c
 
+-- a turn has looked for the pivot
+module _ (c : tie.After-find-pivot Inv-loop μ-loop) where
+  abbrev turn : tie.At-loop Inv-loop μ-loop
+  turn = c .before .before .before
+
+  abbrev start : tie.Start Inv-loop μ-loop
+  start = turn .before
+
+-- there is one
+module _ (c : tie.Else1 Inv-loop μ-loop) where
+  abbrev sought : tie.After-find-pivot Inv-loop μ-loop
+  sought = c .before
+
+  within : sought .find-pivot .result < start sought .args .rows
+  within = omega (arith, sought .find-pivot .ensures .to, c .if1 .left)
+
+-- and it has been brought to its row
+module _ (c : tie.After-bring-pivot Inv-loop μ-loop) where
+  abbrev has : tie.Else1 Inv-loop μ-loop
+  has = c .before .before
+
 loop-holds : tie.Need-loop-holds Inv-loop μ-loop
 loop-holds c = (
   search needs,
@@ -31,37 +52,37 @@ find-pivot-requires c κs =
     (al .loop .inv .2 .size, al .before .pre .1 .0, al .loop .inv .1, omega arith)
 
 substitute-requires : tie.Need-substitute-requires Inv-loop μ-loop
-substitute-requires c κs = (c .before .before .before .before .before .loop .inv .2, omega arith)
+substitute-requires c κs =
+    let at = turn (c .before .before) in
+    (at .loop .inv .2, omega arith)
 
 returns : tie.Need-returns Inv-loop μ-loop
 returns c =
-    let th = c .before .before in
-    let al = th .before .before .before .before in
-    let v = al .loop .inv in
+    let no-pivot = c .before .before in
+    let found = no-pivot .before in
+    let v = turn found .loop .inv in
     let S = c .substitute .ensures .0 in (
       S,
-      answer-free _ _ _ (v .3) _ _ (th .before .before .before .loop-test .taken) (v .4) (th .before .find-pivot .ensures) (th .if1 .taken) (c .substitute .ensures .1) (one-lt _ (S .width))
+      answer-free _ _ _ (v .3) _ _ (found .before .before .loop-test .taken) (v .4) (found .find-pivot .ensures) (no-pivot .if1 .taken) (c .substitute .ensures .1) (one-lt _ (S .width))
           (λ i j. S .symbols _),
     )
 
 bring-pivot-requires : tie.Need-bring-pivot-requires Inv-loop μ-loop
 bring-pivot-requires c κs =
-    let fp = c .before .before in
-    let al = fp .before .before .before in
-    let v = al .loop .inv in
-    let P = fp .find-pivot .ensures in
-    (v .2, ((omega (arith, P .to, c .before .if1 .left), al .before .pre .1 .0, omega arith, al .before .pre .1 .1), (P, v .4)))
+    let found = sought (c .before) in
+    let bounds = start found .pre .1 in
+    let v = turn found .loop .inv in
+    (v .2, ((within (c .before), bounds .0, omega arith, bounds .1), (found .find-pivot .ensures, v .4)))
 
 clear-below-requires : tie.Need-clear-below-requires Inv-loop μ-loop
 clear-below-requires c κs =
-    let br = c .before in
-    let fp = br .before .before .before in
-    let st = fp .before .before .before .before in
-    let P = fp .find-pivot .ensures in (
-      br .bring-pivot .ensures .0,
+    let brought = c .before in
+    let found = sought (has brought) in
+    let bounds = start found .pre .1 in (
+      brought .bring-pivot .ensures .0,
       (
-        (omega (arith, P .from, P .to, br .before .before .if1 .left), st .pre .1 .0, omega arith, st .pre .1 .1),
-        br .bring-pivot .ensures .1 .1,
+        (omega (arith, found .find-pivot .ensures .from, within (has brought)), bounds .0, omega arith, bounds .1),
+        brought .bring-pivot .ensures .1 .1,
       ),
     )
 
@@ -73,14 +94,12 @@ loop-less c = search needs
 
 loop-again : tie.Need-loop-again Inv-loop μ-loop
 loop-again c =
-    let br = c .before .before in
-    let fp = br .before .before .before in
-    let al = fp .before .before .before in
-    let P = fp .find-pivot .ensures in (
+    let brought = c .before .before in
+    let found = sought (has brought) in (
       omega arith,
-      omega (arith, P .from, P .to, br .before .before .if1 .left),
+      omega (arith, found .find-pivot .ensures .from, within (has brought)),
       c .clear-below .ensures .0,
-      alike-trans _ _ _ (al .loop .inv .3) (alike-trans _ _ _ (br .bring-pivot .ensures .1 .0) (c .clear-below .ensures .1 .0)),
+      alike-trans _ _ _ (turn found .loop .inv .3) (alike-trans _ _ _ (brought .bring-pivot .ensures .1 .0) (c .clear-below .ensures .1 .0)),
       c .clear-below .ensures .1 .1,
     )
 

@@ -2,6 +2,7 @@
 //!
 //! `compare [CASES [SEED]]` runs that many cases; the same seed gives the same cases.
 //! `compare replay HEX` runs one case again, as a failing run prints it.
+//! `Verdict` has the exit statuses.
 
 #[cfg(archive)]
 mod crash;
@@ -15,6 +16,19 @@ use std::process::ExitCode;
 /// Enough for every count that a run must reach, and quick enough for every gate.
 const USUAL_CASES: u64 = 320_000;
 const USUAL_SEED: u64 = 1;
+
+/// How a run ends; the number is the program's exit status. A run that the archive's code stops ends with 3.
+#[cfg_attr(not(archive), allow(dead_code))]
+enum Verdict {
+    /// All cases agree, and every quota was met.
+    Agree = 0,
+    /// A case differs.
+    Differ = 1,
+    /// The command line asks for nothing that can be run, or there was no archive when the program was built.
+    Unusable = 2,
+    /// All cases agree, and some quota was not met: no fault of the archive.
+    TooFew = 4,
+}
 
 /// What the command line asks for.
 enum Task {
@@ -42,19 +56,17 @@ fn bytes_of(hex: &str) -> Option<Vec<u8>> {
 
 fn main() -> ExitCode {
     let arguments: Vec<String> = std::env::args().skip(1).collect();
-    let Some(task) = task(&arguments) else {
-        eprintln!("usage: compare [CASES [SEED]] | compare replay HEX");
-        return ExitCode::from(2);
-    };
-    if carry_out(task) {
-        ExitCode::SUCCESS
-    } else {
-        ExitCode::FAILURE
-    }
+    let verdict = task(&arguments).map_or_else(usage, carry_out);
+    ExitCode::from(verdict as u8)
+}
+
+fn usage() -> Verdict {
+    eprintln!("usage: compare [CASES [SEED]] | compare replay HEX");
+    Verdict::Unusable
 }
 
 #[cfg(archive)]
-fn carry_out(task: Task) -> bool {
+fn carry_out(task: Task) -> Verdict {
     crash::report_crashes();
     match task {
         Task::Cases { count, seed } => run::compare(count, seed),
@@ -63,11 +75,11 @@ fn carry_out(task: Task) -> bool {
 }
 
 #[cfg(not(archive))]
-fn carry_out(task: Task) -> bool {
+fn carry_out(task: Task) -> Verdict {
     match task {
         Task::Cases { count, seed } => eprintln!("compare: {count} cases of seed {seed} not run"),
         Task::Replay { frame } => eprintln!("compare: a case of {} bytes not run", frame.len()),
     }
     eprintln!("compare: target/staticlib/libplq.a was not there when this program was built");
-    false
+    Verdict::Unusable
 }

@@ -2,16 +2,18 @@
 
 use crate::crash;
 use crate::tally::Tally;
+use crate::Verdict;
 use second::archive::{Archive, Observed};
 use second::call::{hex, Call, Outcome};
 use second::{frame, generate, reference, worked};
 
-/// Runs the cases worked by hand and then `count` random ones. Whether all agree and every count was reached.
-pub fn compare(count: u64, seed: u64) -> bool {
+/// Runs the cases worked by hand and then `count` random ones.
+pub fn compare(count: u64, seed: u64) -> Verdict {
     let mut archive = Archive::default();
     for worked in worked::all() {
         if !agrees(&mut archive, &worked.call, &worked.outcome) {
-            return false;
+            eprintln!("compare: this was worked by hand: {}", worked.name);
+            return Verdict::Differ;
         }
     }
     let mut tally = Tally::default();
@@ -20,35 +22,37 @@ pub fn compare(count: u64, seed: u64) -> bool {
         let outcome = reference::run(&made.call);
         if !agrees(&mut archive, &made.call, &outcome) {
             eprintln!("compare: this was case {index} of seed {seed}");
-            return false;
+            return Verdict::Differ;
         }
         tally.count(&made, &outcome);
     }
     print!("{tally}");
+    println!("compare: {count} cases agree");
     let missing = tally.missing();
-    for complaint in &missing {
-        eprintln!("compare: {complaint}");
-    }
     if missing.is_empty() {
-        println!("compare: {count} cases agree");
+        return Verdict::Agree;
     }
-    missing.is_empty()
+    println!("compare: that is no fault of the archive, but too few cases to meet these quotas:");
+    for complaint in &missing {
+        println!("compare: {complaint}");
+    }
+    Verdict::TooFew
 }
 
 /// Runs the one case that `bytes` frame and prints both outcomes.
-pub fn replay(bytes: &[u8]) -> bool {
+pub fn replay(bytes: &[u8]) -> Verdict {
     let Some((call, [])) = frame::read(bytes) else {
         eprintln!("compare: these bytes are not one whole case");
-        return false;
+        return Verdict::Unusable;
     };
     println!("{} {call:?}", call.kind.name());
     let outcome = reference::run(&call);
-    let agrees = agrees(&mut Archive::default(), &call, &outcome);
-    if agrees {
-        println!("both: {}", outcome.text(call.kind));
-        println!("compare: the case agrees");
+    if !agrees(&mut Archive::default(), &call, &outcome) {
+        return Verdict::Differ;
     }
-    agrees
+    println!("both: {}", outcome.text(call.kind));
+    println!("compare: the case agrees");
+    Verdict::Agree
 }
 
 /// Whether the archive's outcome is the one expected. If not, both are printed with the way to run the case again.

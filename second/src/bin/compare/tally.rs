@@ -3,6 +3,7 @@
 use second::call::{Call, Kind, Outcome};
 use second::generate::{Made, Origin};
 use second::reference::code::{DEEPEST, LONGEST_ROW};
+use second::reference::line;
 use std::fmt;
 
 /// Every number that a call can give is met at least this often.
@@ -13,8 +14,6 @@ const LEAST_AT_THE_RADIUS: u64 = 1000;
 const LEAST_LINES: u64 = 100_000;
 
 const NUMBERS: usize = 13;
-/// The numbers that a line can begin with.
-const PRINTED: [u8; 9] = [0, 1, 3, 4, 6, 9, 10, 11, 12];
 
 #[derive(Default)]
 pub struct Tally {
@@ -71,10 +70,7 @@ impl Tally {
             self.changed_lines += 1;
         }
         if outcome.answer.number == 0 {
-            let text = outcome.buffers[0].iter();
-            let digits = text.take_while(|byte| byte.is_ascii_digit());
-            let number = digits.fold(0, |number, digit| 10 * number + usize::from(digit - b'0'));
-            self.printed[number] += 1;
+            self.printed[line::number(&outcome.buffers[0])] += 1;
         }
     }
 
@@ -100,7 +96,7 @@ impl Tally {
                 ask(answers[usize::from(*number)], LEAST_OF_A_NUMBER, what);
             }
         }
-        for number in PRINTED {
+        for number in line::NUMBERS {
             let what = format!("a line that begins with {number}");
             ask(self.printed[usize::from(number)], LEAST_OF_A_NUMBER, what);
         }

@@ -28,7 +28,7 @@ fn introduction(decode: f64, encode: f64) -> String {
 
 Taken on {}, {}, and written by
 
-    cargo run --release --offline --manifest-path second/Cargo.toml --bin figures
+    cargo run --profile figures --offline --manifest-path second/Cargo.toml --bin figures
 
 Decode and encode of the archive stand against a plain elimination decoder and a plain encoder in ordinary Rust
 (`second/src/plain`): products from a full table of the field, one flat matrix brought to triangular form up to the

@@ -1,0 +1,270 @@
+/* Every function, macro and constant of plq.h in use, as C and as C++. What is expected was worked out by hand: rows worked
+ * on paper, constant messages (their chunks have the symbol in front and zeros behind it), slips written out bit by bit,
+ * refusals. Prints what differs, and at the end how many facts hold. */
+#include <plq.h>
+
+#include <stdio.h>
+#include <string.h>
+#ifdef __cplusplus
+#include <vector>
+#endif
+
+/* What a buffer holds before a call, so that one that was kept is seen. */
+#define BEFORE 0xEE
+#define COUNT_OF(array) (sizeof(array) / sizeof *(array))
+
+static unsigned held, differ;
+
+static void fact(const char *name, int holds) {
+    if (holds) {
+        held++;
+    } else {
+        differ++;
+        printf("differs: %s\n", name);
+    }
+}
+
+/* Number and detail of an answer of any call but plq_slip_read. */
+static void answers(const char *name, uint64_t answer, enum plq_number number, size_t detail) {
+    fact(name, PLQ_NUMBER(answer) == number && PLQ_DETAIL(answer) == detail);
+    if (PLQ_NUMBER(answer) != number || PLQ_DETAIL(answer) != detail) {
+        printf("  answered %u, detail %zu\n", PLQ_NUMBER(answer), PLQ_DETAIL(answer));
+    }
+}
+
+static void holds(const char *name, const uint8_t *bytes, const void *expected, size_t count) {
+    fact(name, memcmp(bytes, expected, count) == 0);
+}
+
+static void kept(const char *name, const uint8_t *bytes, size_t count) {
+    int same = 1;
+    for (size_t i = 0; i < count; i++) {
+        same = same && bytes[i] == BEFORE;
+    }
+    fact(name, same);
+}
+
+/* Example 3 and example 16 of the paper: a row, the row with two chunks damaged to depth 1, and its slip. */
+static const uint8_t four[4] = {0, 1, 2, 3};
+static const uint8_t message[4] = {1, 2, 2, 1};
+static const uint8_t sent[8] = {1, 2, 0, 3, 2, 1, 2, 0};
+static const uint8_t received[8] = {1, 3, 0, 3, 2, 3, 2, 0};
+static const uint8_t six[6] = {0x10, 0x83, 0x06, 0x1B, 0x73, 0xB8};
+static const char line[] = "0 2 | 1 2 2 1 | 1 0 1 0\n";
+
+static uint8_t zeros[PLQ_MAX_ROW + 1];
+static uint8_t row[PLQ_MAX_ROW], other[PLQ_MAX_ROW], slip[PLQ_MAX_SLIP + 1], text[PLQ_MAX_LINE + 1];
+
+static void fresh(void) {
+    memset(row, BEFORE, sizeof row);
+    memset(other, BEFORE, sizeof other);
+    memset(slip, BEFORE, sizeof slip);
+    memset(text, BEFORE, sizeof text);
+}
+
+static void done_calls(void) {
+    const uint8_t depths[4] = {1, 0, 1, 0};
+    uint64_t answer;
+    fresh();
+    answers("encode", plq_encode(2, 2, 4, four, 4, message, 4, row, 8), PLQ_DONE, 0);
+    holds("the row", row, sent, 8);
+    fresh();
+    answers("decode", plq_decode(2, 2, 4, four, 4, received, 8, row, 4, other, 4), PLQ_DONE, 2);
+    holds("the message", row, message, 4);
+    holds("the depths", other, depths, 4);
+    answers("distance", plq_distance(2, sent, 8, received, 8), PLQ_DONE, 2);
+    answers("slip_write", plq_slip_write(2, 2, 4, four, 4, received, 8, slip, 7), PLQ_DONE, 6);
+    holds("the slip", slip, six, 6);
+    kept("behind the slip", slip + 6, 1);
+    answers("line", plq_line(six, 6, text, sizeof text), PLQ_DONE, sizeof line - 1);
+    holds("the line", text, line, sizeof line - 1);
+    kept("behind the line", text + sizeof line - 1, 1);
+    fresh();
+    answer = plq_slip_read(six, 6, row, 5, other, 9);
+    fact("slip_read", PLQ_NUMBER(answer) == PLQ_DONE && PLQ_SLIP_DETAIL(answer) == 0);
+    holds("the points read", row, four, 4);
+    kept("behind the points", row + 4, 1);
+    holds("the row read", other, received, 8);
+    kept("behind the row", other + 8, 1);
+}
+
+/* A slip with four different numbers: 0001 01 001 0000010 0000100 0, points 1 2 3, symbols 10 to 15. */
+static void parts_of_a_word(void) {
+    const uint8_t bytes[8] = {0x14, 0x82, 0x08, 0x12, 0x3A, 0xBC, 0xDE, 0xF0};
+    const uint64_t word = UINT64_C(0x0000030405060709);
+    uint64_t answer = plq_slip_read(bytes, 8, row, PLQ_MAX_ROW, other, PLQ_MAX_ROW);
+    fact("m of a slip", PLQ_SLIP_M(answer) == 4);
+    fact("r of a slip", PLQ_SLIP_R(answer) == 2);
+    fact("n' of a slip", PLQ_SLIP_COUNT(answer) == 3);
+    fact("k of a slip", PLQ_SLIP_K(answer) == 5);
+    fact("the whole word", answer == UINT64_C(0x0000000503020400));
+    fact("number", PLQ_NUMBER(word) == 9);
+    fact("detail", PLQ_DETAIL(word) == UINT64_C(0x0000000304050607));
+    fact("m", PLQ_SLIP_M(word) == 7);
+    fact("r", PLQ_SLIP_R(word) == 6);
+    fact("n'", PLQ_SLIP_COUNT(word) == 5);
+    fact("k", PLQ_SLIP_K(word) == 4);
+    fact("detail of a slip", PLQ_SLIP_DETAIL(word) == 3);
+    fact("sizes", sizeof PLQ_NUMBER(word) == sizeof(unsigned) && sizeof PLQ_DETAIL(word) == sizeof(size_t));
+}
+
+/* Calls that encode refuses. The message has one symbol throughout. */
+static const struct {
+    const char *name;
+    size_t m, r, k;
+    uint8_t points[5];
+    size_t count, message_len, row_len;
+    uint8_t symbol;
+    enum plq_number number;
+    size_t detail;
+} refused[] = {
+    {"m is 3", 3, 1, 1, {0}, 1, 1, 1, 3, PLQ_BAD_FIELD, 0},
+    {"r above the deepest", 2, PLQ_MAX_DEPTH + 1, 1, {0}, 1, 1, 9, 3, PLQ_BAD_DEPTH, 0},
+    {"five points of four", 2, 1, 1, {0, 1, 2, 3, 0}, 5, 1, 5, 3, PLQ_BAD_POINTS, 0},
+    {"k is n + 1", 2, 1, 3, {0, 1}, 2, 3, 2, 3, PLQ_BAD_K, 0},
+    {"point 4", 2, 1, 1, {0, 1, 4}, 3, 1, 3, 3, PLQ_POINT_HIGH, 2},
+    {"a point twice", 2, 1, 1, {0, 1, 2, 1}, 4, 1, 4, 3, PLQ_POINT_TWICE, 3},
+    {"a short message", 2, 1, 2, {0, 1}, 2, 1, 2, 3, PLQ_BAD_LENGTH, 0},
+    {"a short buffer", 2, 1, 2, {0, 1}, 2, 2, 1, 3, PLQ_BAD_LENGTH, 0},
+    {"symbol 4", 2, 1, 2, {0, 1}, 2, 2, 2, 4, PLQ_SYMBOL_HIGH, 0},
+};
+
+static void refused_codes(void) {
+    uint8_t symbols[3];
+    for (size_t i = 0; i < COUNT_OF(refused); i++) {
+        uint64_t answer;
+        fresh();
+        memset(symbols, refused[i].symbol, sizeof symbols);
+        answer = plq_encode(refused[i].m, refused[i].r, refused[i].k, refused[i].points, refused[i].count, symbols,
+                            refused[i].message_len, row, refused[i].row_len);
+        answers(refused[i].name, answer, refused[i].number, refused[i].detail);
+        kept(refused[i].name, row, sizeof row);
+    }
+}
+
+/* Slips that the reader refuses: too short, another edition, field code 3, five points of four, k = 2 of n = 1, short of
+ * its size, a byte too long, points 1 2 1. */
+static const struct {
+    const char *name;
+    uint8_t bytes[5];
+    size_t count;
+    enum plq_number number;
+    size_t detail;
+    const char *line;
+} refused_slips[] = {
+    {"two bytes", {0x10, 0x00}, 2, PLQ_SLIP_SHORT, 0, "10 0\n"},
+    {"edition 2", {0x20, 0x00, 0x00}, 3, PLQ_SLIP_EDITION, 0, "11 0\n"},
+    {"field code 3", {0x1C, 0x00, 0x00}, 3, PLQ_BAD_FIELD, 0, "1 0\n"},
+    {"five points in a slip", {0x10, 0x04, 0x00}, 3, PLQ_BAD_POINTS, 0, "3 0\n"},
+    {"k 2 and n 1 in a slip", {0x10, 0x00, 0x02}, 3, PLQ_BAD_K, 0, "4 0\n"},
+    {"short of its size", {0x10, 0x00, 0x00}, 3, PLQ_SLIP_SHORT, 0, "10 0\n"},
+    {"a byte too long", {0x10, 0x00, 0x00, 0x00, 0x00}, 5, PLQ_SLIP_LONG, 0, "12 0\n"},
+    {"points 1 2 1", {0x10, 0x02, 0x00, 0x64, 0x00}, 5, PLQ_POINT_TWICE, 2, "6 2\n"},
+};
+
+static void refused_by_the_reader(void) {
+    uint64_t answer;
+    for (size_t i = 0; i < COUNT_OF(refused_slips); i++) {
+        const char *name = refused_slips[i].name, *expected = refused_slips[i].line;
+        fresh();
+        answer = plq_slip_read(refused_slips[i].bytes, refused_slips[i].count, row, 8, other, 8);
+        fact(name, PLQ_NUMBER(answer) == refused_slips[i].number && PLQ_SLIP_DETAIL(answer) == refused_slips[i].detail);
+        fact(name, PLQ_SLIP_M(answer) + PLQ_SLIP_R(answer) + PLQ_SLIP_COUNT(answer) + PLQ_SLIP_K(answer) == 0);
+        kept(name, row, 8);
+        kept(name, other, 8);
+        answer = plq_line(refused_slips[i].bytes, refused_slips[i].count, text, sizeof text);
+        answers(name, answer, PLQ_DONE, strlen(expected));
+        holds(name, text, expected, strlen(expected));
+    }
+    answer = plq_slip_read(six, 6, row, 3, other, 8);
+    fact("room for three points", PLQ_NUMBER(answer) == PLQ_BAD_LENGTH);
+    answers("room for half a line", plq_line(six, 6, text, 12), PLQ_BAD_LENGTH, 0);
+    /* One chunk of three, k = 1: the row 1 2 3 lies nearest to that of the message 1, 1 0 0, and that is depth 2, not 1. */
+    answers("too far", plq_decode(2, 3, 1, four, 1, four + 1, 3, row, 1, other, 1), PLQ_TOO_FAR, 0);
+    answers("distance to depth 9", plq_distance(PLQ_MAX_DEPTH + 1, zeros, 9, zeros, 9), PLQ_BAD_DEPTH, 0);
+}
+
+/* The limits are met and not passed: each call is done at the limit, and one more is refused. */
+static void limits(void) {
+    static uint8_t points[PLQ_MAX_ROW], symbols[PLQ_MAX_ROW];
+    static char longest[PLQ_MAX_LINE + 1];
+    const uint8_t eight[8] = {200, 0, 0, 0, 0, 0, 0, 0}, head[3] = {0x18, 0x7F, 0xFE};
+    fresh();
+    answers("depth 8", plq_encode(8, PLQ_MAX_DEPTH, 1, four, 1, eight, 1, row, PLQ_MAX_DEPTH), PLQ_DONE, 0);
+    holds("the chunk of depth 8", row, eight, 8);
+    memset(symbols, 255, sizeof symbols);
+    answers("128 symbols", plq_distance(8, symbols, PLQ_MAX_ROW, zeros, PLQ_MAX_ROW), PLQ_DONE, 128);
+    answers("129 symbols", plq_distance(1, zeros, PLQ_MAX_ROW + 1, zeros, PLQ_MAX_ROW + 1), PLQ_BAD_LENGTH, 0);
+
+    /* k = n = 128 points: any row is that of one message, here 255 in every coefficient. */
+    for (size_t i = 0; i < PLQ_MAX_ROW; i++) {
+        points[i] = 0xFF & i;
+    }
+    answers("the longest row", plq_encode(8, 1, 128, points, 128, symbols, 128, row, 128), PLQ_DONE, 0);
+    answers("the longest slip", plq_slip_write(8, 1, 128, points, 128, row, 128, slip, PLQ_MAX_SLIP), PLQ_DONE, 259);
+    holds("its header, 0001 10 000 1111111 1111111 0", slip, head, 3);
+    holds("its points", slip + 3, points, 128);
+    kept("behind the longest slip", slip + PLQ_MAX_SLIP, 1);
+    answers("no room for its last byte",
+            plq_slip_write(8, 1, 128, points, 128, row, 128, slip, PLQ_MAX_SLIP - 1), PLQ_BAD_LENGTH, 0);
+    strcpy(longest, "0 0 | 255");
+    for (size_t i = 1; i < 128; i++) {
+        strcat(longest, " 255");
+    }
+    strcat(longest, " | 0");
+    for (size_t i = 1; i < 128; i++) {
+        strcat(longest, " 0");
+    }
+    strcat(longest, "\n");
+    answers("no room for the last byte of a line", plq_line(slip, PLQ_MAX_SLIP, text, PLQ_MAX_LINE - 1), PLQ_BAD_LENGTH, 0);
+    answers("the longest line", plq_line(slip, PLQ_MAX_SLIP, text, PLQ_MAX_LINE), PLQ_DONE, strlen(longest));
+    holds("the longest line", text, longest, PLQ_MAX_LINE);
+    kept("behind the longest line", text + PLQ_MAX_LINE, 1);
+}
+
+/* Each slice of each call with length 0 and a null pointer. */
+static void null_slices(void) {
+    uint64_t answer;
+    fresh();
+    answers("encode, no points", plq_encode(2, 2, 4, NULL, 0, message, 4, row, 8), PLQ_BAD_POINTS, 0);
+    answers("encode, no message", plq_encode(2, 2, 4, four, 4, NULL, 0, row, 8), PLQ_BAD_LENGTH, 0);
+    answers("encode, no row", plq_encode(2, 2, 4, four, 4, message, 4, NULL, 0), PLQ_BAD_LENGTH, 0);
+    answers("decode, no points", plq_decode(2, 2, 4, NULL, 0, sent, 8, row, 4, other, 4), PLQ_BAD_POINTS, 0);
+    answers("decode, no row", plq_decode(2, 2, 4, four, 4, NULL, 0, row, 4, other, 4), PLQ_BAD_LENGTH, 0);
+    answers("decode, no message", plq_decode(2, 2, 4, four, 4, sent, 8, NULL, 0, other, 4), PLQ_BAD_LENGTH, 0);
+    answers("decode, no depths", plq_decode(2, 2, 4, four, 4, sent, 8, row, 4, NULL, 0), PLQ_BAD_LENGTH, 0);
+    answers("distance, no rows", plq_distance(1, NULL, 0, NULL, 0), PLQ_BAD_LENGTH, 0);
+    answers("distance, no first row", plq_distance(1, NULL, 0, four, 4), PLQ_BAD_LENGTH, 0);
+    answers("distance, no second row", plq_distance(1, four, 4, NULL, 0), PLQ_BAD_LENGTH, 0);
+    answers("slip_write, no points", plq_slip_write(2, 2, 4, NULL, 0, sent, 8, slip, 6), PLQ_BAD_POINTS, 0);
+    answers("slip_write, no row", plq_slip_write(2, 2, 4, four, 4, NULL, 0, slip, 6), PLQ_BAD_LENGTH, 0);
+    answers("slip_write, no bytes", plq_slip_write(2, 2, 4, four, 4, sent, 8, NULL, 0), PLQ_BAD_LENGTH, 0);
+    answer = plq_slip_read(NULL, 0, NULL, 0, NULL, 0);
+    fact("slip_read, nothing", PLQ_NUMBER(answer) == PLQ_SLIP_SHORT);
+    answer = plq_slip_read(six, 6, NULL, 0, other, 8);
+    fact("slip_read, no points", PLQ_NUMBER(answer) == PLQ_BAD_LENGTH);
+    answer = plq_slip_read(six, 6, row, 4, NULL, 0);
+    fact("slip_read, no row", PLQ_NUMBER(answer) == PLQ_BAD_LENGTH);
+    kept("a buffer beside a null one", row, sizeof row);
+    kept("another buffer beside a null one", other, sizeof other);
+    kept("a slip beside a null row", slip, sizeof slip);
+    answers("line, no text", plq_line(six, 6, NULL, 0), PLQ_BAD_LENGTH, 0);
+    answers("line, no slip", plq_line(NULL, 0, text, 5), PLQ_DONE, 5);
+    holds("the line of no slip", text, "10 0\n", 5);
+#ifdef __cplusplus
+    std::vector<uint8_t> none;
+    answers("line, an empty vector", plq_line(none.data(), none.size(), text, 5), PLQ_DONE, 5);
+    answers("line, an empty buffer", plq_line(six, 6, none.data(), none.size()), PLQ_BAD_LENGTH, 0);
+#endif
+}
+
+int main(void) {
+    done_calls();
+    parts_of_a_word();
+    refused_codes();
+    refused_by_the_reader();
+    limits();
+    null_slices();
+    printf("%u facts hold, %u differ\n", held, differ);
+    return differ != 0;
+}
