@@ -19,7 +19,8 @@
  *
  * ANSWERS. Each call answers one word: in its low 8 bits a number, 0 if the call was done, else the reason why it was
  * refused (enum below), and above it a detail. A refused call changes no buffer. Where several reasons hold, the
- * smallest number is given, each being tried on the whole input before the next; plq_slip_read has its own order.
+ * smallest number is given, each being tried on the whole input before the next; plq_slip_read and plq_roll_first have their
+ * own order.
  * Indices in details count from 0.
  *
  * No call allocates memory, keeps a pointer or has state: any number of threads may call at once. A thread with a stack
@@ -65,9 +66,10 @@ enum plq_number {
 #define PLQ_CAST_(type, value) ((type)(value))
 #endif
 
-/* The parts of an answer. PLQ_DETAIL is for every call but plq_slip_read, which packs its answer otherwise. */
+/* The parts of an answer. PLQ_DETAIL is for every call but plq_slip_read and plq_roll_first, which have macros of their own. */
 #define PLQ_NUMBER(answer) PLQ_CAST_(unsigned, (answer) & 0xFF)
 #define PLQ_DETAIL(answer) PLQ_CAST_(size_t, (answer) >> 8)
+#define PLQ_ROLL_SIZE(answer) PLQ_CAST_(size_t, (answer) >> 8)
 #define PLQ_SLIP_M(answer) PLQ_CAST_(size_t, (answer) >> 8 & 0xFF)
 #define PLQ_SLIP_R(answer) PLQ_CAST_(size_t, (answer) >> 16 & 0xFF)
 #define PLQ_SLIP_COUNT(answer) PLQ_CAST_(size_t, (answer) >> 24 & 0xFF)
@@ -142,6 +144,16 @@ uint64_t plq_slip_read(const uint8_t *bytes, size_t bytes_len,
  * Number 7: the buffer is too short for the line. There is no other answer. */
 uint64_t plq_line(const uint8_t *slip, size_t slip_len,
                   uint8_t *text, size_t text_len);
+
+/* Finds the first slip of a roll: slips one behind another, as an office saves them in one file.
+ *
+ *   roll     any bytes, of any length; the first slip is roll[0] to roll[size - 1], and the rest of the roll stands behind it
+ *
+ * Answers number | size << 8. An empty roll is done with size 0: none is left. A done call on any other roll has a size of
+ * 4 to PLQ_MAX_SLIP, so the rest is shorter and a walk from slip to slip ends. On a refusal the size is 0, the rest is the whole
+ * roll, and the walk ends too. Tries, in this order: fewer than 3 bytes 10, then 11, 1, 3, 4, shorter than its size 10. The
+ * header alone finds the end; points and row are not looked at, and plq_slip_read may still refuse the slip with 6. */
+uint64_t plq_roll_first(const uint8_t *roll, size_t roll_len);
 
 #ifdef __cplusplus
 }

@@ -120,7 +120,7 @@ two_lines 'the program was removed'; troubled 'the program was removed' 0 'slipr
 # What else a build can do: a copy of the script beside the program, and a stand-in for rt that does what its file says
 tools=$dir/tools small=$dir/small/slipread
 mkdir "$tools" "$dir/small"
-for tool in bash cat dirname flock head mktemp readlink rm sed setsid tail wc; do ln -s "$(command -v "$tool")" "$tools"; done
+for tool in bash cat dirname env flock head mktemp readlink rm sed setsid tail wc; do ln -s "$(command -v "$tool")" "$tools"; done
 cp slipread "$small"
 cp target/bin/slipread "$dir/built"
 small() { PATH=$tools "$small" "$@" >"$dir/out" 2>"$dir/err"; status=$?; }

@@ -88,6 +88,20 @@ static void done_calls(void) {
     kept("behind the row", other + 8, 1);
 }
 
+/* A walk from slip to slip: the six bytes, the smallest slip (0001 00 000 0000000 0000000 0, point 0, symbol 1), and the end. */
+static void a_roll(void) {
+    const uint8_t roll[11] = {0x10, 0x83, 0x06, 0x1B, 0x73, 0xB8, 0x10, 0x00, 0x00, 0x10, 0x10};
+    const size_t sizes[3] = {6, 4, 0};
+    size_t at = 0;
+    for (size_t i = 0; i < COUNT_OF(sizes); i++) {
+        uint64_t answer = plq_roll_first(roll + at, 10 - at);
+        fact("a slip of a roll", PLQ_NUMBER(answer) == PLQ_DONE && PLQ_ROLL_SIZE(answer) == sizes[i]);
+        at += PLQ_ROLL_SIZE(answer);
+    }
+    fact("the end of a roll", at == 10);
+    answers("a byte behind the last slip", plq_roll_first(roll + 10, 1), PLQ_SLIP_SHORT, 0);
+}
+
 /* A slip with four different numbers: 0001 01 001 0000010 0000100 0, points 1 2 3, symbols 10 to 15. */
 static void parts_of_a_word(void) {
     const uint8_t bytes[8] = {0x14, 0x82, 0x08, 0x12, 0x3A, 0xBC, 0xDE, 0xF0};
@@ -151,15 +165,16 @@ static const struct {
     enum plq_number number;
     size_t detail;
     const char *line;
+    size_t first;
 } refused_slips[] = {
-    {"two bytes", {0x10, 0x00}, 2, PLQ_SLIP_SHORT, 0, "10 0\n"},
-    {"edition 2", {0x20, 0x00, 0x00}, 3, PLQ_SLIP_EDITION, 0, "11 0\n"},
-    {"field code 3", {0x1C, 0x00, 0x00}, 3, PLQ_BAD_FIELD, 0, "1 0\n"},
-    {"five points in a slip", {0x10, 0x04, 0x00}, 3, PLQ_BAD_POINTS, 0, "3 0\n"},
-    {"k 2 and n 1 in a slip", {0x10, 0x00, 0x02}, 3, PLQ_BAD_K, 0, "4 0\n"},
-    {"short of its size", {0x10, 0x00, 0x00}, 3, PLQ_SLIP_SHORT, 0, "10 0\n"},
-    {"a byte too long", {0x10, 0x00, 0x00, 0x00, 0x00}, 5, PLQ_SLIP_LONG, 0, "12 0\n"},
-    {"points 1 2 1", {0x10, 0x02, 0x00, 0x64, 0x00}, 5, PLQ_POINT_TWICE, 2, "6 2\n"},
+    {"two bytes", {0x10, 0x00}, 2, PLQ_SLIP_SHORT, 0, "10 0\n", 0},
+    {"edition 2", {0x20, 0x00, 0x00}, 3, PLQ_SLIP_EDITION, 0, "11 0\n", 0},
+    {"field code 3", {0x1C, 0x00, 0x00}, 3, PLQ_BAD_FIELD, 0, "1 0\n", 0},
+    {"five points in a slip", {0x10, 0x04, 0x00}, 3, PLQ_BAD_POINTS, 0, "3 0\n", 0},
+    {"k 2 and n 1 in a slip", {0x10, 0x00, 0x02}, 3, PLQ_BAD_K, 0, "4 0\n", 0},
+    {"short of its size", {0x10, 0x00, 0x00}, 3, PLQ_SLIP_SHORT, 0, "10 0\n", 0},
+    {"a byte too long", {0x10, 0x00, 0x00, 0x00, 0x00}, 5, PLQ_SLIP_LONG, 0, "12 0\n", 4},
+    {"points 1 2 1", {0x10, 0x02, 0x00, 0x64, 0x00}, 5, PLQ_POINT_TWICE, 2, "6 2\n", 5},
 };
 
 static void refused_by_the_reader(void) {
@@ -172,6 +187,13 @@ static void refused_by_the_reader(void) {
         fact(name, PLQ_SLIP_M(answer) + PLQ_SLIP_R(answer) + PLQ_SLIP_COUNT(answer) + PLQ_SLIP_K(answer) == 0);
         kept(name, row, 8);
         kept(name, other, 8);
+        /* a roll does not end with its first slip, and is not refused for its points */
+        answer = plq_roll_first(refused_slips[i].bytes, refused_slips[i].count);
+        if (refused_slips[i].number == PLQ_SLIP_LONG || refused_slips[i].number == PLQ_POINT_TWICE) {
+            fact(name, PLQ_NUMBER(answer) == PLQ_DONE && PLQ_ROLL_SIZE(answer) == refused_slips[i].first);
+        } else {
+            fact(name, PLQ_NUMBER(answer) == refused_slips[i].number && PLQ_ROLL_SIZE(answer) == 0);
+        }
         answer = plq_line(refused_slips[i].bytes, refused_slips[i].count, text, sizeof text);
         answers(name, answer, PLQ_DONE, strlen(expected));
         holds(name, text, expected, strlen(expected));
@@ -248,6 +270,7 @@ static void null_slices(void) {
     kept("a buffer beside a null one", row, sizeof row);
     kept("another buffer beside a null one", other, sizeof other);
     kept("a slip beside a null row", slip, sizeof slip);
+    answers("roll_first, no roll", plq_roll_first(NULL, 0), PLQ_DONE, 0);
     answers("line, no text", plq_line(six, 6, NULL, 0), PLQ_BAD_LENGTH, 0);
     answers("line, no slip", plq_line(NULL, 0, text, 5), PLQ_DONE, 5);
     holds("the line of no slip", text, "10 0\n", 5);
@@ -260,6 +283,7 @@ static void null_slices(void) {
 
 int main(void) {
     done_calls();
+    a_roll();
     parts_of_a_word();
     refused_codes();
     refused_by_the_reader();

@@ -56,6 +56,7 @@ mod c {
             row_len: usize,
         ) -> u64;
         pub fn plq_line(slip: *const u8, slip_len: usize, text: *mut u8, text_len: usize) -> u64;
+        pub fn plq_roll_first(roll: *const u8, roll_len: usize) -> u64;
     }
 }
 
@@ -153,6 +154,10 @@ pub fn line(slip: &[u8], text: &mut [u8]) -> u64 {
     unsafe { c::plq_line(slip.as_ptr(), slip.len(), text.as_mut_ptr(), text.len()) }
 }
 
+pub fn roll_first(roll: &[u8]) -> u64 {
+    unsafe { c::plq_roll_first(roll.as_ptr(), roll.len()) }
+}
+
 /// What was seen of a call in the archive.
 pub struct Observed {
     pub answer: u64,
@@ -204,6 +209,7 @@ impl Archive {
             Kind::SlipWrite => slip_write(code(numbers), second, buffer),
             Kind::SlipRead => slip_read(first, buffer, other),
             Kind::Line => line(first, buffer),
+            Kind::RollFirst => roll_first(first),
         }
     }
 

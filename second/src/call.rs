@@ -9,6 +9,7 @@ pub enum Kind {
     SlipWrite = 4,
     SlipRead = 5,
     Line = 6,
+    RollFirst = 7,
 }
 
 /// How many numbers, input slices and buffers a call takes, in this order.
@@ -20,13 +21,14 @@ pub struct Shape {
 }
 
 impl Kind {
-    pub const ALL: [Kind; 6] = [
+    pub const ALL: [Kind; 7] = [
         Kind::Encode,
         Kind::Decode,
         Kind::Distance,
         Kind::SlipWrite,
         Kind::SlipRead,
         Kind::Line,
+        Kind::RollFirst,
     ];
 
     pub fn from_byte(byte: u8) -> Option<Kind> {
@@ -60,6 +62,7 @@ impl Kind {
             Kind::SlipWrite => ("slip_write", (3, 2, 1), &[0, 1, 2, 3, 4, 5, 6, 7, 8]),
             Kind::SlipRead => ("slip_read", (0, 1, 2), &[0, 1, 3, 4, 6, 7, 10, 11, 12]),
             Kind::Line => ("line", (0, 1, 1), &[0, 7]),
+            Kind::RollFirst => ("roll_first", (0, 1, 0), &[0, 1, 3, 4, 10, 11]),
         }
     }
 }
@@ -110,6 +113,10 @@ impl Call {
 
     pub fn line(slip: Vec<u8>, text: Vec<u8>) -> Call {
         Call::with_slip(Kind::Line, slip, vec![text])
+    }
+
+    pub fn roll_first(roll: Vec<u8>) -> Call {
+        Call::with_slip(Kind::RollFirst, roll, vec![])
     }
 
     fn with_code(kind: Kind, code: RawCode, symbols: Vec<u8>, buffers: Vec<Vec<u8>>) -> Call {

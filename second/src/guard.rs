@@ -8,7 +8,9 @@ use std::ptr;
 use std::slice;
 
 const PAGE: usize = 4096;
-/// What the bytes before the buffer hold.
+/// The longest buffer that can be placed: a roll of 40 slips has room.
+pub const ROOM: usize = 4 * PAGE;
+/// What the bytes before the buffer hold, as many as there are but no more than a page.
 static PATTERN: [u8; PAGE] = [0xA5; PAGE];
 
 const PROT_NONE: i32 = 0;
@@ -28,7 +30,7 @@ extern "C" {
     fn munmap(address: *mut c_void, length: usize) -> i32;
 }
 
-/// A page to read and write between two that must not be touched, with a buffer at its end.
+/// Pages to read and write between two that must not be touched, with a buffer at their end.
 pub struct Guarded {
     first: *mut u8,
     length: usize,
@@ -42,11 +44,11 @@ impl Default for Guarded {
 
 impl Guarded {
     pub fn new() -> Guarded {
-        // SAFETY: a fresh mapping is asked for; its middle page, which lies within it, is then opened.
+        // SAFETY: a fresh mapping is asked for; its middle pages, which lie within it, are then opened.
         let first = unsafe {
             let pages = mmap(
                 ptr::null_mut(),
-                3 * PAGE,
+                ROOM + 2 * PAGE,
                 PROT_NONE,
                 MAP_PRIVATE_ANONYMOUS,
                 -1,
@@ -54,8 +56,8 @@ impl Guarded {
             );
             assert_ne!(pages as isize, -1, "no memory for a guarded buffer");
             let first = pages.cast::<u8>();
-            let opened = mprotect(first.add(PAGE).cast(), PAGE, PROT_READ_WRITE);
-            assert_eq!(opened, 0, "the page between the guards cannot be opened");
+            let opened = mprotect(first.add(PAGE).cast(), ROOM, PROT_READ_WRITE);
+            assert_eq!(opened, 0, "the pages between the guards cannot be opened");
             first
         };
         let mut guarded = Guarded { first, length: 0 };
@@ -63,38 +65,45 @@ impl Guarded {
         guarded
     }
 
-    /// Puts `bytes` at the end of the page and the pattern before them.
+    /// Puts `bytes` at the end of the pages and the pattern before them.
     pub fn place(&mut self, bytes: &[u8]) {
         self.length = bytes.len();
-        let (margin, buffer) = self.page_mut().split_at_mut(PAGE - bytes.len());
-        margin.copy_from_slice(&PATTERN[..PAGE - bytes.len()]);
-        buffer.copy_from_slice(bytes);
+        let margin = self.margin();
+        let start = ROOM - bytes.len();
+        let pages = self.pages_mut();
+        pages[start - margin..start].copy_from_slice(&PATTERN[..margin]);
+        pages[start..].copy_from_slice(bytes);
     }
 
     /// The buffer that was placed last.
     pub fn bytes(&self) -> &[u8] {
-        &self.page()[PAGE - self.length..]
+        &self.pages()[ROOM - self.length..]
     }
 
     pub fn bytes_mut(&mut self) -> &mut [u8] {
-        let start = PAGE - self.length;
-        &mut self.page_mut()[start..]
+        let start = ROOM - self.length;
+        &mut self.pages_mut()[start..]
     }
 
     /// Whether nothing was written before the buffer.
     pub fn margin_kept(&self) -> bool {
-        let margin = PAGE - self.length;
-        self.page()[..margin] == PATTERN[..margin]
+        let margin = self.margin();
+        let start = ROOM - self.length;
+        self.pages()[start - margin..start] == PATTERN[..margin]
     }
 
-    fn page(&self) -> &[u8] {
-        // SAFETY: the middle page of the mapping is open as long as `self` lives.
-        unsafe { slice::from_raw_parts(self.first.add(PAGE), PAGE) }
+    fn margin(&self) -> usize {
+        PAGE.min(ROOM - self.length)
     }
 
-    fn page_mut(&mut self) -> &mut [u8] {
-        // SAFETY: as in `page`, and `self` is borrowed alone.
-        unsafe { slice::from_raw_parts_mut(self.first.add(PAGE), PAGE) }
+    fn pages(&self) -> &[u8] {
+        // SAFETY: the middle pages of the mapping are open as long as `self` lives.
+        unsafe { slice::from_raw_parts(self.first.add(PAGE), ROOM) }
+    }
+
+    fn pages_mut(&mut self) -> &mut [u8] {
+        // SAFETY: as in `pages`, and `self` is borrowed alone.
+        unsafe { slice::from_raw_parts_mut(self.first.add(PAGE), ROOM) }
     }
 }
 
@@ -102,7 +111,7 @@ impl Drop for Guarded {
     fn drop(&mut self) {
         // SAFETY: the mapping was made in `new` with this length, and nobody holds a part of it any more.
         unsafe {
-            munmap(self.first.cast(), 3 * PAGE);
+            munmap(self.first.cast(), ROOM + 2 * PAGE);
         }
     }
 }
@@ -112,7 +121,7 @@ mod tests {
     use super::*;
 
     #[test]
-    fn the_buffer_ends_where_its_page_ends() {
+    fn the_buffer_ends_where_a_page_ends() {
         let mut guarded = Guarded::new();
         guarded.place(&[1, 2, 3]);
         let end = guarded.bytes().as_ptr_range().end as usize;
@@ -128,7 +137,7 @@ mod tests {
         let mut guarded = Guarded::new();
         guarded.place(&[1, 2, 3]);
         assert!(guarded.margin_kept());
-        guarded.page_mut()[PAGE - 4] ^= 1;
+        guarded.pages_mut()[ROOM - 4] ^= 1;
         assert!(!guarded.margin_kept());
     }
 }

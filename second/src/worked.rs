@@ -27,6 +27,7 @@ pub fn all() -> Vec<Worked> {
     cases.extend(limits());
     cases.extend(two_at_once());
     cases.extend(slips());
+    cases.extend(rolls());
     cases
 }
 
@@ -268,6 +269,47 @@ fn slips() -> Vec<Worked> {
             call: Call::line(SIX_BYTES.to_vec(), fresh(23)),
             outcome: outcome(7, 0, vec![fresh(23)]),
         },
+    ]
+}
+
+fn finds(name: &'static str, parts: &[&[u8]], answer: (u8, usize)) -> Worked {
+    Worked {
+        name,
+        call: Call::roll_first(parts.concat()),
+        outcome: outcome(answer.0, answer.1, vec![]),
+    }
+}
+
+/// The smallest slip: m 2, r 1, k 1, the point 0 and the symbol 1.
+const FOUR_BYTES: [u8; 4] = [0x10, 0x00, 0x00, 0x10];
+
+fn rolls() -> Vec<Worked> {
+    vec![
+        finds("an empty roll", &[], (0, 0)),
+        finds("one slip", &[&SIX_BYTES], (0, 6)),
+        finds("two slips", &[&SIX_BYTES, &FOUR_BYTES], (0, 6)),
+        finds(
+            "two slips, the short one first",
+            &[&FOUR_BYTES, &SIX_BYTES],
+            (0, 4),
+        ),
+        finds("a slip and noise", &[&FOUR_BYTES, &[0xFF; 9]], (0, 4)),
+        finds(
+            "a slip with a repeated point",
+            &[&[0x10, 0x01, 0x00, 0x00]],
+            (0, 4),
+        ),
+        finds("two bytes of a roll", &[&SIX_BYTES[..2]], (10, 0)),
+        finds("a slip less a byte", &[&SIX_BYTES[..5]], (10, 0)),
+        finds("edition 0", &[&[0x00, 0x83, 0x06], &SIX_BYTES], (11, 0)),
+        finds("field code 3", &[&[0x1C, 0x00, 0x00], &SIX_BYTES], (1, 0)),
+        finds(
+            "five points of four",
+            &[&[0x10, 0x04, 0x00], &SIX_BYTES],
+            (3, 0),
+        ),
+        finds("k 2 and n 1", &[&[0x10, 0x00, 0x02], &SIX_BYTES], (4, 0)),
+        finds("k 2 and n 1, short too", &[&[0x10, 0x00, 0x02]], (4, 0)),
     ]
 }
 

@@ -39,3 +39,11 @@ pub fn line(bytes: &[u8], text: &mut [u8]) {
     show::answer(line::line(bytes, text));
     show::buffer(text);
 }
+
+// The size of the first slip stands where another call has its detail.
+pub fn roll_first(roll: &[u8]) {
+    show::numbers(
+        answers::number_in(roll::roll_answer(roll)),
+        roll::roll_first(roll).len(),
+    );
+}

@@ -15,6 +15,8 @@ pub const SLIP_READ: u8 = 5;
 
 pub const LINE: u8 = 6;
 
+pub const ROLL_FIRST: u8 = 7;
+
 // No slice of a case is longer.
 pub const ROOM: usize = 600;
 

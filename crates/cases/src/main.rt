@@ -8,6 +8,7 @@ use frame::DECODE;
 use frame::DISTANCE;
 use frame::ENCODE;
 use frame::LINE;
+use frame::ROLL_FIRST;
 use frame::ROOM;
 use frame::SLIP_READ;
 use frame::SLIP_WRITE;
@@ -37,7 +38,8 @@ fn make(
         DISTANCE => return calls::distance(r, first, second),
         SLIP_WRITE => return calls::slip_write(m, r, k, first, second, buffer),
         SLIP_READ => return calls::slip_read(first, buffer, other),
-        _ => return calls::line(first, buffer),
+        LINE => return calls::line(first, buffer),
+        _ => return calls::roll_first(first),
     }
 }
 
@@ -53,7 +55,7 @@ fn run(call: u8) {
     let k = frame::number(coded(call));
     let a = frame::slice(true, &mut first);
     let b = frame::slice(two_inputs, &mut second);
-    let c = frame::slice(call != DISTANCE, &mut buffer);
+    let c = frame::slice(call != DISTANCE && call != ROLL_FIRST, &mut buffer);
     let d = frame::slice(call == DECODE || call == SLIP_READ, &mut other);
     make(
         call,
@@ -73,7 +75,7 @@ fn main() {
     let mut left = MOST;
     while 0 < left {
         let call = frame::call();
-        if call < ENCODE || LINE < call {
+        if call < ENCODE || ROLL_FIRST < call {
             return;
         }
         run(call);

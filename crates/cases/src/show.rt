@@ -20,10 +20,14 @@ pub fn buffer(s: &[u8]) {
     }
 }
 
-pub fn answer(a: Answer) {
-    number(answers::number_in(a));
+pub fn numbers(a: usize, b: usize) {
+    number(a);
     io::write_all(1, b" ");
-    number(answers::detail_in(a));
+    number(b);
+}
+
+pub fn answer(a: Answer) {
+    numbers(answers::number_in(a), answers::detail_in(a));
 }
 
 pub fn reading(s: SlipRead) {

@@ -12,3 +12,4 @@ pub mod Slip
 pub mod Write
 pub mod Read
 pub mod Line
+pub mod Roll

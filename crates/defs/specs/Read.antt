@@ -15,14 +15,17 @@ use Rattle.defs.specs.declared.Verdict.the-variants.{Fine, Refused}
 use Rattle.defs.specs.declared.Answer.the-variants.{Done, Refused as No}
 use Rattle.defs.specs.declared.SlipRead.{SlipRead}
 
--- 10, 11, 1, 3, 4, 10, 12, on the header and the size alone
-unfoldable pub headVerdict : List ℕ → Verdict
-headVerdict bytes =
+-- 10, 11, 1, 3, 4, 10: the bytes begin with a slip, by its header and their length alone
+unfoldable pub firstVerdict : List ℕ → Verdict
+firstVerdict bytes =
     refuse (ltb (length bytes) 3) SlipShort
     (refuse (not (eqb (editionIn bytes) 1)) Edition
     (andThen (numbersVerdict (widthIn bytes) (depthIn bytes) (dimensionIn bytes) (countIn bytes))
-    (refuse (ltb (length bytes) (sizeIn bytes)) SlipShort
-    (refuse (ltb (sizeIn bytes) (length bytes)) SlipLong Fine))))
+    (refuse (ltb (length bytes) (sizeIn bytes)) SlipShort Fine)))
+
+-- then 12: nothing stands behind it
+unfoldable pub headVerdict : List ℕ → Verdict
+headVerdict bytes = andThen (firstVerdict bytes) (refuse (ltb (sizeIn bytes) (length bytes)) SlipLong Fine)
 
 -- then 6, 7; the two numbers are the lengths of the point buffer and of the row buffer
 unfoldable pub readVerdict : List ℕ → ℕ → ℕ → Verdict

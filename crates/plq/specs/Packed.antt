@@ -2,12 +2,14 @@
 use Prim.Native.Nat.{ℕ, _+_, _*_, _^_, _<_}
 use mathlib.Core.Path.{_≡_}
 use mathlib.Core.List.{List}
-use Rattle.defs.specs.Refusal.{number, detail}
+use lib.ListN.{length}
+use Rattle.defs.specs.Refusal.{number, detail, answer}
 use Rattle.defs.specs.Encode.{Encoded}
 use Rattle.defs.specs.Decode.{Decoded}
 use Rattle.defs.specs.Write.{Written}
 use Rattle.defs.specs.Read.{Read}
 use Rattle.defs.specs.Line.{Lined}
+use Rattle.defs.specs.Roll.{rollVerdict, firstPart}
 use Rattle.defs.specs.declared.Answer.{Answer}
 use Rattle.defs.specs.declared.SlipRead.{SlipRead}
 
@@ -19,6 +21,10 @@ packed a = number a + detail a * 2 ^ 8
 abbrev pub packedRead : SlipRead → ℕ
 packedRead s =
     number (s .answer) + s .m * 2 ^ 8 + s .r * 2 ^ 16 + s .count * 2 ^ 24 + s .k * 2 ^ 32 + detail (s .answer) * 2 ^ 40
+
+-- the number, and the size of a roll's first slip above it
+abbrev pub packedRoll : List ℕ → ℕ
+packedRoll roll = number (answer (rollVerdict roll) 0) + length (firstPart roll) * 2 ^ 8
 
 -- p packs an answer that the call may give
 pub record Packs {A : Type 0} (pack : A → ℕ) (Call : A → Type 0) (p : ℕ) : Type 0 where

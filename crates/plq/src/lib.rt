@@ -3,7 +3,7 @@ ghost use mathlib.Core.Path.{_≡_};
 ghost use Prim.Native.Nat.{_^_, _<_};
 ghost use Rattle.defs.specs.Refusal.{detail};
 ghost use Rattle.defs.specs.Encode.{distanceAnswer};
-ghost use Rattle.plq.specs.Packed.{packed, packedRead, PackedEncoded, PackedDecoded, PackedWritten, PackedRead, PackedLined, Narrow};
+ghost use Rattle.plq.specs.Packed.{packed, packedRead, packedRoll, PackedEncoded, PackedDecoded, PackedWritten, PackedRead, PackedLined, Narrow};
 use defs::Answer;
 use defs::SlipRead;
 
@@ -100,4 +100,14 @@ pub extern "C" fn plq_line(bytes: &[u8], text: &mut [u8]) -> u64
     ensures { λ p. ⌜ PackedLined (now (bytes .entry)) (now (text .entry)) p (now (text .exit)) ⌝ }
 {
     pack(line::line(bytes, text))
+}
+
+// Finds the first slip of a roll.
+#[no_mangle]
+pub extern "C" fn plq_roll_first(roll: &[u8]) -> u64
+    ensures { λ p. ⌜ p ≡ packedRoll (now (roll .entry)) ⌝ }
+{
+    let number = answers::number_in(roll::roll_answer(roll)) as u64;
+    let size = roll::first_size(roll) as u64;
+    number + size * 256
 }

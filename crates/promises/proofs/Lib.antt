@@ -5,8 +5,11 @@ pub mod Write
 pub mod Taken
 pub mod RoundTrip
 pub mod Slip
+pub mod Header
 pub mod Enough
 pub mod WorkedSlip
 pub mod Line
 pub mod Packed
 pub mod Unpacked
+pub mod Roll
+pub mod Walk

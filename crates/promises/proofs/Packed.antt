@@ -6,7 +6,7 @@ use Rattle.defs.specs.Encode.{distanceAnswer}
 use Rattle.promises.proofs.Decode.{decode-same}
 use Rattle.promises.proofs.Slip.{written-same, read-same}
 use Rattle.promises.proofs.Line.{lined-unique}
-use Rattle.plq.specs.Packed.{packed, Packs, PackedEncoded, PackedDecoded, PackedWritten, PackedRead, PackedLined}
+use Rattle.plq.specs.Packed.{packed, packedRoll, Packs, PackedEncoded, PackedDecoded, PackedWritten, PackedRead, PackedLined}
 
 -- equal answers are packed alike
 packs-same : {A : Type 0} {pack : A → ℕ} {C C′ : A → Type 0} {p q : ℕ} (x : Packs pack C p) (y : Packs pack C′ q) → x .answer ≡ y .answer → p ≡ q
@@ -42,3 +42,6 @@ pub packed-line-same : {bytes buffer : List ℕ} {p q : ℕ} {s t : List ℕ}
 packed-line-same {bytes} {buffer} {s = s} {t = t} x y =
     let e = lined-unique bytes buffer (x .answer) (y .answer) s t (x .call) (y .call) in
     (packs-same x y (e .0), e .1)
+
+pub packed-roll-same : (roll : List ℕ) {p q : ℕ} → p ≡ packedRoll roll → q ≡ packedRoll roll → p ≡ q
+packed-roll-same roll x y = x ∙ sym y

@@ -12,7 +12,7 @@ use Rattle.defs.specs.Refusal.{answer, kept}
 use Rattle.defs.specs.Limits.{numbersVerdict, firstTwice, codeVerdict, Inside}
 use Rattle.defs.specs.Slip.{allBits, numberAt, slipSize, slipBits, slipOf, editionIn, widthIn, depthIn, countIn, dimensionIn, symbolsIn, pointsIn, rowIn}
 use Rattle.defs.specs.Write.{front, writeVerdict, Written}
-use Rattle.defs.specs.Read.{headVerdict, readVerdict, Read}
+use Rattle.defs.specs.Read.{firstVerdict, headVerdict, readVerdict, Read}
 use Rattle.defs.specs.declared.Verdict.the-variants.{Fine}
 use Rattle.defs.specs.declared.Answer.the-variants.{Done}
 use Rattle.defs.specs.declared.SlipRead.{SlipRead}
@@ -25,7 +25,7 @@ use Rattle.slip.proofs.HeaderBits.{header-edition, header-width, header-depth, 
 use Rattle.slip.proofs.Packed.{number-back, slip-bits-are, in-header, behind-header}
 use Rattle.slip.proofs.Writer.{inside-width, inside-fits, inside-symbols, writable}
 use Rattle.slip.proofs.Front.{take-front}
-use Rattle.slip.proofs.Reader.{Opened, head-size, size-right, Searched, read-fine, reading-done}
+use Rattle.slip.proofs.Reader.{size-in, Opened, first-fine, head-fine, Searched, read-fine, reading-done}
 
 module _ (m r k : ℕ) (points w : List ℕ) where
   pub length-slip : length (slipOf m r k points w) ≡ slipSize m (length points + length w)
@@ -96,12 +96,14 @@ module _ (m r k : ℕ) (points w : List ℕ) where
           let e1 = refuse-fine _ _ _ (then-fine (numbersVerdict m r k (length points)) _ e .1) in
           ltb-false (firstTwice points) (length points) (refuse-fine _ _ _ (e1 .1) .0)
 
-      head-back : headVerdict (slipOf m r k points w) ≡ Fine
+      pub head-back : headVerdict (slipOf m r k points w) ≡ Fine
       unfolding head slipSize
       head-back =
-          let size : length (slipOf m r k points w) ≡ slipSize m (length points + r * length points) = length-slip ∙ ap (λ (x : ℕ). slipSize m (length points + x)) n in
-          let opened : Opened (slipOf m r k points w) head = record { long = omega (arith, size); heads = heads-back; edition = refl } in
-          sym (head-size _ head opened numbers-fine _ refl Fine (size-right (length (slipOf m r k points w)) (slipSize m (length points + r * length points)) (omega (arith, size)) (omega (arith, size))))
+          let slip = slipOf m r k points w in
+          let size : length slip ≡ slipSize m (length points + r * length points) = length-slip ∙ ap (λ (x : ℕ). slipSize m (length points + x)) n in
+          let opened : Opened slip head = record { long = omega (arith, size); heads = heads-back; edition = refl } in
+          let first : firstVerdict slip ≡ Fine = sym (first-fine slip head opened numbers-fine _ refl (omega (arith, size))) in
+          sym (head-fine slip first (omega (arith, size, size-in slip head heads-back)))
 
       verdict-back : (points₀ row₀ : List ℕ) → length points ≤ length points₀ → length w ≤ length row₀
           → readVerdict (slipOf m r k points w) (length points₀) (length row₀) ≡ Fine
@@ -134,6 +136,12 @@ module _ (m r k d : ℕ) (points w bytes bytes′ : List ℕ) (t : Written m r k
       let e : length (slipOf m r k points w) ≡ d = length-slip m r k points w ∙ cc in
       let b : bytes′ ≡ front (slipOf m r k points w) bytes = rw taken at (t .leaves) in
       ap (take d) b ∙ take-front (slipOf m r k points w) bytes d e
+
+  -- it is a slip by its header and its size
+  pub written-whole : headVerdict (take d bytes′) ≡ Fine
+  written-whole =
+      let x = writable m r k points w (length bytes) taken in
+      rw wrote (head-back m r k points w (x .inside) (x .symbols) (x .row))
 
   -- WRITE, THEN READ: whatever the writer left, if it was done, and whatever the reader then answers, the code and the row are the same
   pub round-trip : (points₀ row₀ : List ℕ) → length points ≤ length points₀ → length w ≤ length row₀

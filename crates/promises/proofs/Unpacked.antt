@@ -3,15 +3,23 @@ use Prim.Native.Nat.{ℕ, _/_, _%_, _^_}
 use mathlib.Core.Path.{_≡_}
 use mathlib.Core.List.{List}
 use native.Mathlib.Omega.{arith}
-use Rattle.defs.specs.Refusal.{number, detail}
+use lib.ListN.{length}
+use Rattle.defs.specs.Refusal.{number, detail, answer}
 use Rattle.defs.specs.Read.{Read}
+use Rattle.defs.specs.Roll.{rollVerdict, firstPart}
 use Rattle.defs.specs.declared.Answer.{Answer}
 use Rattle.defs.specs.declared.SlipRead.{SlipRead}
-use Rattle.plq.specs.Packed.{packed, packedRead}
+use Rattle.plq.specs.Packed.{packed, packedRead, packedRoll}
 use Rattle.plq.proofs.Small.{number-small, read-narrow}
 
 pub unpacked : (a : Answer) → (packed a % 2 ^ 8 ≡ number a) × (packed a / 2 ^ 8 ≡ detail a)
 unpacked a = (omega (arith, number-small a), omega (arith, number-small a))
+
+pub roll-unpacked : (roll : List ℕ)
+    → (packedRoll roll % 2 ^ 8 ≡ number (answer (rollVerdict roll) 0)) × (packedRoll roll / 2 ^ 8 ≡ length (firstPart roll))
+roll-unpacked roll =
+    let l = number-small (answer (rollVerdict roll) 0) in
+    (omega arith, omega arith)
 
 -- the parts of a number that packs what the slip reader answers
 pub record Unpacked (p : ℕ) (s : SlipRead) : Type 0 where

@@ -6,3 +6,4 @@ pub mod Front
 pub mod Writer
 pub mod Reader
 pub mod Taken
+pub mod Refusals

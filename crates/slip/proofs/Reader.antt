@@ -7,12 +7,12 @@ use native.Mathlib.Nat.{mul-comm, mul-le-mul-left}
 use native.Mathlib.Omega.{arith}
 use lib.Dec.{ltb}
 use lib.ListN.{length, take}
-use borrow.Author.Tests.{lt-ltb, le-ltb, eq-eqb, ne-eqb, ltb-false}
+use borrow.Author.Tests.{lt-ltb, le-ltb, eq-eqb, ne-eqb, ltb-false, eqb-true, not-false}
 use Rattle.defs.specs.Refusal.{refuse, andThen, kept}
 use Rattle.defs.specs.Limits.{longest, numbersVerdict, firstTwice}
-use Rattle.defs.specs.Slip.{slipSize, widthIn, depthIn, countIn, dimensionIn, sizeIn, symbolsIn, pointsIn, rowIn}
+use Rattle.defs.specs.Slip.{slipSize, longestSlip, editionIn, widthIn, depthIn, countIn, dimensionIn, sizeIn, symbolsIn, pointsIn, rowIn}
 use Rattle.defs.specs.Write.{front}
-use Rattle.defs.specs.Read.{headVerdict, readVerdict, reading, Read}
+use Rattle.defs.specs.Read.{firstVerdict, headVerdict, readVerdict, reading, Read}
 use Rattle.defs.specs.declared.Refusal.{Refusal}
 use Rattle.defs.specs.declared.Refusal.the-variants.{PointTwice, Length, SlipShort, Edition, SlipLong}
 use Rattle.defs.specs.declared.Verdict.{Verdict}
@@ -24,27 +24,26 @@ use Rattle.theory.proofs.Limits.{numbers-known, count-small}
 use Rattle.theory.proofs.Verdict.{refuse-fine, then-fine}
 use Rattle.slip.specs.declared.Head.{Head}
 use Rattle.slip.specs.Head.{Heads, Holds}
+use Rattle.slip.proofs.Writer.{size-top}
 use Rattle.slip.proofs.Front.{length-symbols, take-front}
 
 -- ---- the checks of header and size
 
--- n bytes, and the size that they should have
-abbrev sizeVerdict : ℕ → ℕ → Verdict
-sizeVerdict n size = refuse (ltb n size) SlipShort (refuse (ltb size n) SlipLong Fine)
+-- what a header that was read says of the numbers and the size
+module _ (bytes : List ℕ) (h : Head) (s : Heads bytes h) where
+  pub numbers-in : numbersVerdict (h .m) (h .r) (h .k) (h .count) ≡ numbersVerdict (widthIn bytes) (depthIn bytes) (dimensionIn bytes) (countIn bytes)
+  numbers-in = rw (s .m-is, s .r-is, s .k-is, s .count-is)
 
-module _ (n size : ℕ) where
-  pub size-short : n < size → Refused SlipShort ≡ sizeVerdict n size
-  unfolding refuse
-  size-short l = rw (lt-ltb n size l)
+  pub size-in : slipSize (h .m) (h .count + h .r * h .count) ≡ sizeIn bytes
+  unfolding sizeIn
+  size-in = rw (s .m-is, s .r-is, s .count-is)
 
-  module _ (enough : size ≤ n) where
-    pub size-long : size < n → Refused SlipLong ≡ sizeVerdict n size
-    unfolding refuse
-    size-long l = rw (le-ltb n size enough, lt-ltb size n l)
-
-    pub size-right : n ≤ size → Fine ≡ sizeVerdict n size
-    unfolding refuse
-    size-right l = rw (le-ltb n size enough, le-ltb size n l)
+-- a header whose numbers are fine asks for no more bytes than the longest slip has
+pub header-top : (bytes : List ℕ) → numbersVerdict (widthIn bytes) (depthIn bytes) (dimensionIn bytes) (countIn bytes) ≡ Fine → sizeIn bytes ≤ longestSlip
+unfolding sizeIn
+header-top bytes e =
+    let n = numbers-known _ _ _ _ e in
+    size-top (widthIn bytes) (countIn bytes + depthIn bytes * countIn bytes) (n .width) (omega (arith, count-small n, n .row-top))
 
 -- a header that was read, and is of edition 1
 pub record Opened (bytes : List ℕ) (h : Head) : Type 0 where
@@ -53,32 +52,75 @@ pub record Opened (bytes : List ℕ) (h : Head) : Type 0 where
   pub edition : h .edition ≡ 1
 
 module _ (bytes : List ℕ) where
-  pub head-short : length bytes < 3 → Refused SlipShort ≡ headVerdict bytes
-  unfolding headVerdict refuse
-  head-short l = rw (lt-ltb (length bytes) 3 l)
+  pub first-short : length bytes < 3 → Refused SlipShort ≡ firstVerdict bytes
+  unfolding firstVerdict refuse
+  first-short l = rw (lt-ltb (length bytes) 3 l)
 
-  pub head-edition : 3 ≤ length bytes → (h : Head) → Heads bytes h → (h .edition ≡ 1 → ⊥) → Refused Edition ≡ headVerdict bytes
-  unfolding headVerdict refuse
-  head-edition long h s n = rw (le-ltb (length bytes) 3 long, ← s .edition-is, ne-eqb (h .edition) 1 n)
+  pub first-edition : 3 ≤ length bytes → (h : Head) → Heads bytes h → (h .edition ≡ 1 → ⊥) → Refused Edition ≡ firstVerdict bytes
+  unfolding firstVerdict refuse
+  first-edition long h s n = rw (le-ltb (length bytes) 3 long, ← s .edition-is, ne-eqb (h .edition) 1 n)
 
   module _ (h : Head) (o : Opened bytes h) where
     -- an opened header is judged by its numbers and its size
-    by-numbers : headVerdict bytes ≡ andThen (numbersVerdict (h .m) (h .r) (h .k) (h .count)) (sizeVerdict (length bytes) (slipSize (h .m) (h .count + h .r * h .count)))
-    unfolding headVerdict refuse sizeIn
+    by-numbers : firstVerdict bytes
+        ≡ andThen (numbersVerdict (h .m) (h .r) (h .k) (h .count)) (refuse (ltb (length bytes) (slipSize (h .m) (h .count + h .r * h .count))) SlipShort Fine)
+    unfolding firstVerdict refuse
     by-numbers =
         let s = o .heads in
-        rw (le-ltb (length bytes) 3 (o .long), ← s .edition-is, eq-eqb (h .edition) 1 (o .edition), ← s .m-is, ← s .r-is, ← s .k-is, ← s .count-is)
+        rw (le-ltb (length bytes) 3 (o .long), ← s .edition-is, eq-eqb (h .edition) 1 (o .edition), numbers-in bytes h s, size-in bytes h s)
 
-    pub head-numbers : (x : Refusal) → numbersVerdict (h .m) (h .r) (h .k) (h .count) ≡ Refused x → Refused x ≡ headVerdict bytes
+    pub first-numbers : (x : Refusal) → numbersVerdict (h .m) (h .r) (h .k) (h .count) ≡ Refused x → Refused x ≡ firstVerdict bytes
     unfolding andThen
-    head-numbers x v = sym (by-numbers ∙ rw v)
+    first-numbers x v = sym (by-numbers ∙ rw v)
 
-    pub head-size : numbersVerdict (h .m) (h .r) (h .k) (h .count) ≡ Fine → (size : ℕ) → size ≡ slipSize (h .m) (h .count + h .r * h .count)
-        → (v : Verdict) → v ≡ sizeVerdict (length bytes) size → v ≡ headVerdict bytes
-    unfolding andThen
-    head-size f size q v e = e ∙ sym (by-numbers ∙ rw (f, ← q))
+    module _ (f : numbersVerdict (h .m) (h .r) (h .k) (h .count) ≡ Fine) (size : ℕ) (q : size ≡ slipSize (h .m) (h .count + h .r * h .count)) where
+      pub first-small : length bytes < size → Refused SlipShort ≡ firstVerdict bytes
+      unfolding andThen refuse
+      first-small l = sym (by-numbers ∙ rw (f, ← q, lt-ltb (length bytes) size l))
 
--- what they show of the bytes
+      pub first-fine : size ≤ length bytes → Fine ≡ firstVerdict bytes
+      unfolding andThen refuse
+      first-fine l = sym (by-numbers ∙ rw (f, ← q, le-ltb (length bytes) size l))
+
+  -- the same, and then 12
+  pub head-first : (x : Refusal) → firstVerdict bytes ≡ Refused x → Refused x ≡ headVerdict bytes
+  unfolding headVerdict andThen
+  head-first x e = rw e
+
+  module _ (e : firstVerdict bytes ≡ Fine) where
+    pub head-large : sizeIn bytes < length bytes → Refused SlipLong ≡ headVerdict bytes
+    unfolding headVerdict andThen refuse
+    head-large l = rw (e, lt-ltb (sizeIn bytes) (length bytes) l)
+
+    pub head-fine : length bytes ≤ sizeIn bytes → Fine ≡ headVerdict bytes
+    unfolding headVerdict andThen refuse
+    head-fine l = rw (e, le-ltb (sizeIn bytes) (length bytes) l)
+
+-- what they show of bytes that begin with a slip, and of a slip
+pub record Begins (bytes : List ℕ) : Type 0 where
+  pub long : 3 ≤ length bytes
+  pub edition : editionIn bytes ≡ 1
+  pub fine : numbersVerdict (widthIn bytes) (depthIn bytes) (dimensionIn bytes) (countIn bytes) ≡ Fine
+  pub size : sizeIn bytes ≤ length bytes
+
+pub begins : (bytes : List ℕ) → firstVerdict bytes ≡ Fine → Begins bytes
+unfolding firstVerdict
+begins bytes e =
+    let e1 = refuse-fine _ _ _ e in
+    let e2 = refuse-fine _ _ _ (e1 .1) in
+    let e3 = then-fine (numbersVerdict (widthIn bytes) (depthIn bytes) (dimensionIn bytes) (countIn bytes)) _ (e2 .1) in
+    let e4 = refuse-fine _ _ _ (e3 .1) in
+    record {
+      long = ltb-false (length bytes) 3 (e1 .0);
+      edition = eqb-true (editionIn bytes) 1 (not-false _ (e2 .0));
+      fine = e3 .0;
+      size = ltb-false (length bytes) (sizeIn bytes) (e4 .0);
+    }
+
+pub begun : (bytes : List ℕ) → Begins bytes → firstVerdict bytes ≡ Fine
+unfolding firstVerdict refuse andThen
+begun bytes b = rw (le-ltb (length bytes) 3 (b .long), eq-eqb (editionIn bytes) 1 (b .edition), b .fine, le-ltb (length bytes) (sizeIn bytes) (b .size))
+
 pub record Sound (bytes : List ℕ) : Type 0 where
   pub long : 3 ≤ length bytes
   pub numbers : Numbers (widthIn bytes) (depthIn bytes) (dimensionIn bytes) (countIn bytes)
@@ -87,15 +129,12 @@ pub record Sound (bytes : List ℕ) : Type 0 where
 pub sound : (bytes : List ℕ) → headVerdict bytes ≡ Fine → Sound bytes
 unfolding headVerdict
 sound bytes e =
-    let e1 = refuse-fine _ _ _ e in
-    let e2 = refuse-fine _ _ _ (e1 .1) in
-    let e3 = then-fine (numbersVerdict (widthIn bytes) (depthIn bytes) (dimensionIn bytes) (countIn bytes)) _ (e2 .1) in
-    let e4 = refuse-fine _ _ _ (e3 .1) in
-    let e5 = refuse-fine _ _ _ (e4 .1) in
+    let e1 = then-fine (firstVerdict bytes) _ e in
+    let b = begins bytes (e1 .0) in
     record {
-      long = ltb-false (length bytes) 3 (e1 .0);
-      numbers = numbers-known _ _ _ _ (e3 .0);
-      size = omega (arith, ltb-false (length bytes) (sizeIn bytes) (e4 .0), ltb-false (sizeIn bytes) (length bytes) (e5 .0));
+      long = b .long;
+      numbers = numbers-known _ _ _ _ (b .fine);
+      size = omega (arith, b .size, ltb-false (sizeIn bytes) (length bytes) (refuse-fine _ _ _ (e1 .1) .0));
     }
 
 -- ---- the symbols that a sound slip holds

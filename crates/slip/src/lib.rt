@@ -5,10 +5,10 @@ ghost use Prim.Native.Nat.{_+_, _*_, _^_, _<_, _≤_};
 ghost use lib.ListN.{length, getD};
 ghost use Rattle.defs.specs.Field.{Width};
 ghost use Rattle.defs.specs.Place.{Symbols};
-ghost use Rattle.defs.specs.Limits.{longest, firstTwice, Inside};
-ghost use Rattle.defs.specs.Slip.{allBits, numberAt, widthOf, fieldCode, slipBits, slipSize, longestSlip, slipOf, widthIn, countIn, symbolsIn, pointsIn};
+ghost use Rattle.defs.specs.Limits.{longest, numbersVerdict, firstTwice, Inside};
+ghost use Rattle.defs.specs.Slip.{allBits, numberAt, widthOf, fieldCode, slipBits, slipSize, longestSlip, slipOf, widthIn, countIn, sizeIn, symbolsIn, pointsIn};
 ghost use Rattle.defs.specs.Write.{front, writeVerdict, Written};
-ghost use Rattle.defs.specs.Read.{headVerdict, reading, Read};
+ghost use Rattle.defs.specs.Read.{firstVerdict, headVerdict, reading, Read};
 ghost use Rattle.slip.specs.Head.{headerBits, Fitting, Heads, Holds};
 use defs::Answer;
 use defs::LONGEST;
@@ -210,9 +210,17 @@ fn take_symbols(m: usize, bytes: &[u8], past: usize, n: usize, out: &mut [u8])
     }
 }
 
-// 10, 11, 1, 3, 4, 10 and 12, on the header and the size.
-fn check_head(bytes: &[u8]) -> Verdict
-    ensures { λ v. ⌜ v ≡ headVerdict (now (bytes .entry)) ⌝ }
+// The size of the slip with this header.
+fn head_size(head: Head) -> usize
+    requires { ⌜ numbersVerdict (head .m) (head .r) (head .k) (head .count) ≡ Verdict.Fine ⌝ }
+    ensures { λ s. ⌜ s ≡ slipSize (head .m) (head .count + head .r * head .count) ⌝ }
+{
+    slip_size(head.m, head.count + head.r * head.count)
+}
+
+// 10, 11, 1, 3, 4 and 10, on the header and the size: whether the bytes begin with a slip.
+pub fn check_first(bytes: &[u8]) -> Verdict
+    ensures { λ v. ⌜ v ≡ firstVerdict (now (bytes .entry)) ⌝ }
 {
     if bytes.len() < 3 {
         return Verdict::Refused(Refusal::SlipShort);
@@ -225,11 +233,29 @@ fn check_head(bytes: &[u8]) -> Verdict
     if let Verdict::Refused(x) = v {
         return Verdict::Refused(x);
     }
-    let size = slip_size(head.m, head.count + head.r * head.count);
-    if bytes.len() < size {
+    if bytes.len() < head_size(head) {
         return Verdict::Refused(Refusal::SlipShort);
     }
-    if size < bytes.len() {
+    Verdict::Fine
+}
+
+// The size of the slip that the bytes begin with, by its header.
+pub fn size_in(bytes: &[u8]) -> usize
+    requires { ⌜ firstVerdict (now bytes) ≡ Verdict.Fine ⌝ }
+    ensures { λ n. ⌜ n ≡ sizeIn (now (bytes .entry)) ⌝ }
+{
+    head_size(head_of(bytes))
+}
+
+// The same and then 12.
+fn check_head(bytes: &[u8]) -> Verdict
+    ensures { λ v. ⌜ v ≡ headVerdict (now (bytes .entry)) ⌝ }
+{
+    let v = check_first(bytes);
+    if let Verdict::Refused(x) = v {
+        return Verdict::Refused(x);
+    }
+    if size_in(bytes) < bytes.len() {
         return Verdict::Refused(Refusal::SlipLong);
     }
     Verdict::Fine

@@ -53,5 +53,6 @@ pub mod c {
             row_len: usize,
         ) -> u64;
         pub fn plq_line(slip: *const u8, slip_len: usize, text: *mut u8, text_len: usize) -> u64;
+        pub fn plq_roll_first(roll: *const u8, roll_len: usize) -> u64;
     }
 }

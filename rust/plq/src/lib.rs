@@ -30,16 +30,18 @@
 //! The functions here are the proved functions of the archive `libplq.a`, on slices. Nothing need be checked before a
 //! call, no call panics on any input, and a refused call leaves every buffer as it was. An answer of a newer archive that
 //! this crate does not know is a refusal too, [`Refusal::Unknown`]. Where several refusals hold,
-//! the one with the smallest [number](Refusal::number) is given; [`slip_read`] has an order of its own.
+//! the one with the smallest [number](Refusal::number) is given; [`slip_read`] and [`slips`] have an order of their own.
 //! No call allocates memory or has state, and all may be made from any number of threads.
 
 #![deny(missing_docs)]
 
 mod archive;
 mod refusal;
+mod roll;
 mod word;
 
 pub use refusal::Refusal;
+pub use roll::{slips, Slips};
 
 use archive::c;
 use word::{done, header};

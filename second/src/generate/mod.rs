@@ -3,6 +3,7 @@
 pub mod codes;
 pub mod damage;
 mod faults;
+pub mod rolls;
 pub mod slips;
 
 use crate::call::{Call, Kind, RawCode};
@@ -19,6 +20,8 @@ pub enum Origin {
     JustBeyond,
     /// A slip as it was written, then changed, cut or extended.
     ChangedSlip,
+    /// A roll of so many slips, joined in this way.
+    Roll(usize, rolls::Way),
 }
 
 pub struct Made {
@@ -29,7 +32,7 @@ pub struct Made {
 /// A buffer with room for every line: 128 symbols of three digits and 128 depths with their spaces.
 const ROOMY_TEXT: usize = 800;
 
-/// How many of a hundred cases are of each kind.
+/// How many of 108 cases are of each kind.
 const SHARES: [(Kind, usize); Kind::ALL.len()] = [
     (Kind::Encode, 12),
     (Kind::Decode, 24),
@@ -37,6 +40,7 @@ const SHARES: [(Kind, usize); Kind::ALL.len()] = [
     (Kind::SlipWrite, 9),
     (Kind::SlipRead, 12),
     (Kind::Line, 36),
+    (Kind::RollFirst, 8),
 ];
 
 /// Case `index` of the run with this seed.
@@ -61,6 +65,7 @@ fn of_kind(random: &mut Random, kind: Kind) -> Made {
         },
         Kind::SlipRead => slip_read(random),
         Kind::Line => line_call(random),
+        Kind::RollFirst => roll_first(random),
     }
 }
 
@@ -249,6 +254,14 @@ fn line_call(random: &mut Random) -> Made {
     Made {
         call: Call::line(drawn.bytes, random.bytes(room)),
         origin: slip_origin(drawn.changed),
+    }
+}
+
+fn roll_first(random: &mut Random) -> Made {
+    let drawn = rolls::roll(random);
+    Made {
+        call: Call::roll_first(drawn.bytes),
+        origin: Origin::Roll(drawn.slips, drawn.way),
     }
 }
 

@@ -37,7 +37,7 @@ pub fn slip(random: &mut Random) -> Drawn {
 }
 
 /// What the writer would make a slip of.
-fn written(random: &mut Random) -> Slip {
+pub fn written(random: &mut Random) -> Slip {
     let code = codes::code(random, Sizes::MostlyShort);
     Slip {
         header: Header {

@@ -10,6 +10,7 @@ pub mod field;
 pub mod line;
 pub mod poly;
 pub mod refusal;
+pub mod roll;
 pub mod rows;
 pub mod search;
 pub mod slip;
@@ -64,6 +65,7 @@ fn detail(call: &Call, buffers: &mut [Vec<u8>]) -> Result<usize, Refusal> {
             slip::write(m, r, k, points, row, bytes)
         }
         (Kind::Line, [], [slip], [text]) => line::line(slip, text),
+        (Kind::RollFirst, [], [roll], []) => roll::first(roll),
         _ => panic!("a {} call has another shape", call.kind.name()),
     }
 }

@@ -1,6 +1,7 @@
 //! What a run has met, and whether that is enough.
 
 use second::call::{Call, Kind, Outcome};
+use second::generate::rolls::{Way, MOST_SLIPS};
 use second::generate::{Made, Origin};
 use second::reference::code::{DEEPEST, LONGEST_ROW};
 use second::reference::line;
@@ -13,9 +14,13 @@ const LEAST_AT_THE_RADIUS: u64 = 1000;
 /// So many slips are given to line, half of them written ones that were changed.
 const LEAST_LINES: u64 = 100_000;
 
+/// So many rolls are given to roll_first, and of each way to make one so many; so many more come from the archive's writer.
+const LEAST_ROLLS: u64 = 20_000;
+const LEAST_OF_A_WAY: u64 = 1000;
+const LEAST_WRITTEN_ROLLS: u64 = 100;
+
 const NUMBERS: usize = 13;
 
-#[derive(Default)]
 pub struct Tally {
     cases: u64,
     /// How often each call gave each number, in the order of the calls.
@@ -29,6 +34,30 @@ pub struct Tally {
     /// Codes that were decoded, by m and r and by the length of the row.
     fields: [[u64; DEEPEST]; 3],
     lengths: Vec<u64>,
+    /// Rolls, by the way they were made and by their slips.
+    ways: [u64; Way::ALL.len()],
+    slips: [u64; MOST_SLIPS + 1],
+    /// Rolls of slips that the archive wrote.
+    pub written_rolls: u64,
+}
+
+impl Default for Tally {
+    fn default() -> Tally {
+        Tally {
+            cases: 0,
+            answers: Default::default(),
+            printed: Default::default(),
+            changed_lines: 0,
+            accepted_at_radius: 0,
+            refused_just_beyond: 0,
+            accepted_just_beyond: 0,
+            fields: Default::default(),
+            lengths: Vec::new(),
+            ways: Default::default(),
+            slips: [0; MOST_SLIPS + 1],
+            written_rolls: 0,
+        }
+    }
 }
 
 impl Tally {
@@ -40,6 +69,7 @@ impl Tally {
         match call.kind {
             Kind::Decode if matches!(number, 0 | 9) => self.count_decode(made, outcome),
             Kind::Line => self.count_line(made, outcome),
+            Kind::RollFirst => self.count_roll(made),
             _ => (),
         }
     }
@@ -74,8 +104,19 @@ impl Tally {
         }
     }
 
+    fn count_roll(&mut self, made: &Made) {
+        if let Origin::Roll(slips, way) = made.origin {
+            self.ways[way as usize] += 1;
+            self.slips[slips] += 1;
+        }
+    }
+
+    fn calls(&self, kind: Kind) -> u64 {
+        self.answers[kind as usize - 1].iter().sum()
+    }
+
     fn lines(&self) -> u64 {
-        self.answers[Kind::Line as usize - 1].iter().sum()
+        self.calls(Kind::Line)
     }
 
     fn lengths_met(&self) -> usize {
@@ -115,6 +156,17 @@ impl Tally {
         ask(self.lines(), LEAST_LINES, "a slip for line".into());
         let half = self.lines() / 2;
         ask(self.changed_lines, half, "a changed slip for line".into());
+        let rolls = self.calls(Kind::RollFirst);
+        ask(rolls, LEAST_ROLLS, "a roll for roll_first".into());
+        for (way, count) in Way::ALL.iter().zip(self.ways) {
+            ask(count, LEAST_OF_A_WAY, format!("a roll {}", way.name()));
+        }
+        for (slips, count) in self.slips.iter().enumerate() {
+            let what = format!("a roll of {slips} slips");
+            ask(*count, LEAST_OF_A_NUMBER, what);
+        }
+        let written = "a roll of slips that the archive wrote".into();
+        ask(self.written_rolls, LEAST_WRITTEN_ROLLS, written);
         let lengths = self.lengths_met() as u64;
         ask(
             lengths,
@@ -159,6 +211,15 @@ impl fmt::Display for Tally {
             "slips for line: {}, of them {} written and then changed",
             self.lines(),
             self.changed_lines
+        )?;
+        write!(out, "rolls for roll_first:")?;
+        for (way, count) in Way::ALL.iter().zip(self.ways) {
+            write!(out, " {} {count};", way.name())?;
+        }
+        writeln!(
+            out,
+            " {} more of slips that the archive wrote",
+            self.written_rolls
         )
     }
 }

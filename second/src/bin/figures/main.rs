@@ -13,6 +13,8 @@ mod measure;
 #[cfg(archive)]
 mod report;
 #[cfg(archive)]
+mod rolls;
+#[cfg(archive)]
 mod sides;
 #[cfg(archive)]
 mod stack;

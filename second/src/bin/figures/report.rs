@@ -4,6 +4,7 @@ use crate::fec::{Fec, Library};
 use crate::inputs::{samples, settings, Damage, Sample, Setting};
 use crate::machine::{machine, today};
 use crate::measure::{Figure, RUNS};
+use crate::rolls::{walks, Walk};
 use crate::sides::{decode_figure, encode_figure, fec_decode_figure, fec_encode_figure};
 use crate::stack::stack_use;
 use second::archive::{self, CodeRef};
@@ -18,6 +19,7 @@ pub fn report() -> String {
     let decode = decode_table(&mut tables);
     let encode = encode_table(&mut tables);
     fec_table(&mut tables);
+    roll_table(&mut tables);
     stack_table(&mut tables);
     format!("{}{tables}", introduction(decode, encode))
 }
@@ -126,6 +128,29 @@ fn fec_table(page: &mut String) {
     );
 }
 
+/// The table of walks over a roll.
+fn roll_table(page: &mut String) {
+    let columns = "| roll, bytes | slip, bytes | slips found | walk, us | against half the roll |";
+    heading(page, "A walk over a roll", columns);
+    for walk in walks() {
+        let Walk {
+            bytes,
+            slip,
+            slips,
+            time,
+            ratio,
+        } = walk;
+        let line = format!("| {bytes} | {slip} | {slips} | {time:.2} | {ratio:.2} |");
+        println!("{line}");
+        page.push_str(&line);
+        page.push('\n');
+    }
+    page.push_str(
+        "\nEach slip is found by one call of roll_first on what is left. The time is linear in the slips: a roll twice as\n\
+         long takes twice as long.\n",
+    );
+}
+
 /// A level-two heading and the first two lines of a table.
 fn heading(page: &mut String, title: &str, columns: &str) {
     let rule: String = "|---".repeat(columns.matches('|').count() - 1);
@@ -150,7 +175,7 @@ fn stack_table(page: &mut String) {
     let _ = write!(
         page,
         "\n## Stack\n\nBytes of stack for m 8, r 1, n 128, k 64, found by running each call on a stack filled with a\n\
-         pattern. A thread with a stack of 64 KiB has 65536; the call that takes most takes {deepest}.\n\n\
+         pattern, beyond those of a thread that does nothing: 0 is a call that takes no more than that. A thread with a stack of 64 KiB has 65536; the call that takes most takes {deepest}.\n\n\
          | call | bytes |\n|---|---|\n",
     );
     for (name, bytes) in uses {
@@ -192,6 +217,10 @@ fn stack_uses() -> Vec<(&'static str, usize)> {
         (
             "line",
             stack_use(&mut || _ = archive::line(&slip, &mut text)),
+        ),
+        (
+            "roll_first",
+            stack_use(&mut || _ = archive::roll_first(&slip)),
         ),
     ]
 }

@@ -1,0 +1,2 @@
+-- The laws of rolls.
+pub mod Parts
