@@ -6,7 +6,7 @@
 source "$(dirname "$0")/common.bash"
 archive=target/staticlib/libplq.a
 below_data=968     # 952 and a constant of 16
-below_code=47891   # 45,891 and a slack of 2,000
+below_code=48385   # 46,385 and a slack of 2,000
 below_encoder=2112 # 2,050 and a slack of 62
 
 # weighed FILE: its sections and their sizes
