@@ -56,7 +56,8 @@ enum plq_number {
     PLQ_TOO_FAR = 9,        /* no message has a row within floor((n - k) / 2) of this one */
     PLQ_SLIP_SHORT = 10,    /* the slip is shorter than 3 bytes or than its own size */
     PLQ_SLIP_EDITION = 11,  /* the slip is not of edition 1 */
-    PLQ_SLIP_LONG = 12      /* the slip is longer than its own size */
+    PLQ_SLIP_LONG = 12,     /* the slip is longer than its own size */
+    PLQ_SLIP_BITS = 13      /* a spare or fill bit of the slip is not 0 */
 };
 
 /* A cast that is clean in either language; for the macros below alone. */
@@ -109,7 +110,8 @@ uint64_t plq_distance(size_t r,
                       const uint8_t *a, size_t a_len,
                       const uint8_t *b, size_t b_len);
 
-/* Writes a code and a row as a slip of 3 + ceil((n' + n) m / 8) bytes, at most 259.
+/* Writes a code and a row as a slip of 3 + ceil((n' + n) m / 8) bytes, at most 259. No other bytes are a slip of this code
+ * and row: the spare bit of the header and the fill bits behind the last symbol are 0.
  *
  *   row      exactly n symbols; any row, not only one that plq_encode made
  *   bytes    at least as long as the slip; bytes behind it are kept
@@ -128,7 +130,8 @@ uint64_t plq_slip_write(size_t m, size_t r, size_t k,
  *
  * Answers number | m << 8 | r << 16 | n' << 24 | k << 32 | detail << 40. On refusal m, r, n' and k are 0; the detail
  * is that of number 6, else 0. Tries, in this order: fewer than 3 bytes 10, then 11, 1, 3, 4, shorter than its size
- * 10, then 12, 6, 7. A done call gives a code that the other calls take. */
+ * 10, then 12, 13, 6, 7. A done call gives a code that the other calls take, and plq_slip_write makes these bytes, and no
+ * others, from that code and row. */
 uint64_t plq_slip_read(const uint8_t *bytes, size_t bytes_len,
                        uint8_t *points, size_t points_len,
                        uint8_t *row, size_t row_len);
@@ -136,7 +139,8 @@ uint64_t plq_slip_read(const uint8_t *bytes, size_t bytes_len,
 /* Reads a slip, decodes its row and writes the line that the program slipread prints, with its newline:
  *
  *   0 TOTAL | MESSAGE | DEPTHS      decoded: total depth of damage, k symbols, n' depths, in decimal
- *   NUMBER DETAIL                   refused, by the reader or with 9 by the decoder
+ *   NUMBER DETAIL                   refused, by the reader (10, 11, 1, 3, 4, 10, 12, 13, 6, in this order) or with 9 by
+ *                                   the decoder
  *
  *   text     at least as long as the line; bytes behind it are kept (PLQ_MAX_LINE is always enough)
  *
@@ -152,7 +156,8 @@ uint64_t plq_line(const uint8_t *slip, size_t slip_len,
  * Answers number | size << 8. An empty roll is done with size 0: none is left. A done call on any other roll has a size of
  * 4 to PLQ_MAX_SLIP, so the rest is shorter and a walk from slip to slip ends. On a refusal the size is 0, the rest is the whole
  * roll, and the walk ends too. Tries, in this order: fewer than 3 bytes 10, then 11, 1, 3, 4, shorter than its size 10. The
- * header alone finds the end; points and row are not looked at, and plq_slip_read may still refuse the slip with 6. */
+ * header alone finds the end; its spare bit, the points, the row and the fill are not looked at, and plq_slip_read may still
+ * refuse the slip with 13 or 6. */
 uint64_t plq_roll_first(const uint8_t *roll, size_t roll_len);
 
 #ifdef __cplusplus

@@ -42,6 +42,8 @@ run "$rollread" < <(example; printf 'noise'; example); expect 'noise between' "$
 run "$rollread" < <(printf '\034\000\000'; three); expect 'noise in front' '1 0'$'\n'
 run "$rollread" < <(three; printf '\020'); expect 'noise behind' "$line"$'\n'{,,} '10 0'$'\n'
 run "$rollread" < <(printf '\020\001\000\000'; example); expect 'a slip that is refused' '6 1'$'\n' "$line"$'\n'
+run "$rollread" < <(printf '\020\000\000\021\020\203\007\033\163\270'; example)
+expect 'slips with bits of spare and fill set' '13 0'$'\n'{,} "$line"$'\n'
 run "$rollread" < <(example; yes); expect 'a slip and endless noise' "$line"$'\n' '11 0'$'\n'
 # the script's head gathers what comes in, so the program itself gets these too
 for reader in "$rollread" "$program"; do

@@ -157,7 +157,9 @@ static void refused_codes(void) {
 }
 
 /* Slips that the reader refuses: too short, another edition, field code 3, five points of four, k = 2 of n = 1, short of
- * its size, a byte too long, points 1 2 1. */
+ * its size, a byte too long. Then the smallest slip, 0001 00 000 0000000 0000000 0 00 01 and 0000 for the fill, with a bit
+ * set that holds nothing: the spare one, the first and the last of the fill. Last, repeated points with such a bit and
+ * without: points 1 1 and symbols 0 0 leave no fill, points 1 2 1 and symbols 0 0 0 leave four bits. */
 static const struct {
     const char *name;
     uint8_t bytes[5];
@@ -174,10 +176,17 @@ static const struct {
     {"k 2 and n 1 in a slip", {0x10, 0x00, 0x02}, 3, PLQ_BAD_K, 0, "4 0\n", 0},
     {"short of its size", {0x10, 0x00, 0x00}, 3, PLQ_SLIP_SHORT, 0, "10 0\n", 0},
     {"a byte too long", {0x10, 0x00, 0x00, 0x00, 0x00}, 5, PLQ_SLIP_LONG, 0, "12 0\n", 4},
+    {"the spare bit and a byte too long", {0x10, 0x00, 0x01, 0x10, 0x00}, 5, PLQ_SLIP_LONG, 0, "12 0\n", 4},
+    {"the spare bit", {0x10, 0x00, 0x01, 0x10}, 4, PLQ_SLIP_BITS, 0, "13 0\n", 4},
+    {"the first bit of the fill", {0x10, 0x00, 0x00, 0x18}, 4, PLQ_SLIP_BITS, 0, "13 0\n", 4},
+    {"the last bit of the fill", {0x10, 0x00, 0x00, 0x11}, 4, PLQ_SLIP_BITS, 0, "13 0\n", 4},
+    {"the spare bit and points 1 1", {0x10, 0x01, 0x01, 0x50}, 4, PLQ_SLIP_BITS, 0, "13 0\n", 4},
+    {"a bit of the fill and points 1 2 1", {0x10, 0x02, 0x00, 0x64, 0x01}, 5, PLQ_SLIP_BITS, 0, "13 0\n", 5},
     {"points 1 2 1", {0x10, 0x02, 0x00, 0x64, 0x00}, 5, PLQ_POINT_TWICE, 2, "6 2\n", 5},
 };
 
 static void refused_by_the_reader(void) {
+    const uint8_t spare[6] = {0x10, 0x83, 0x07, 0x1B, 0x73, 0xB8};
     uint64_t answer;
     for (size_t i = 0; i < COUNT_OF(refused_slips); i++) {
         const char *name = refused_slips[i].name, *expected = refused_slips[i].line;
@@ -187,9 +196,9 @@ static void refused_by_the_reader(void) {
         fact(name, PLQ_SLIP_M(answer) + PLQ_SLIP_R(answer) + PLQ_SLIP_COUNT(answer) + PLQ_SLIP_K(answer) == 0);
         kept(name, row, 8);
         kept(name, other, 8);
-        /* a roll does not end with its first slip, and is not refused for its points */
+        /* a roll does not end with its first slip, and is not refused for its points, its spare bit or its fill */
         answer = plq_roll_first(refused_slips[i].bytes, refused_slips[i].count);
-        if (refused_slips[i].number == PLQ_SLIP_LONG || refused_slips[i].number == PLQ_POINT_TWICE) {
+        if (refused_slips[i].first > 0) {
             fact(name, PLQ_NUMBER(answer) == PLQ_DONE && PLQ_ROLL_SIZE(answer) == refused_slips[i].first);
         } else {
             fact(name, PLQ_NUMBER(answer) == refused_slips[i].number && PLQ_ROLL_SIZE(answer) == 0);
@@ -200,6 +209,8 @@ static void refused_by_the_reader(void) {
     }
     answer = plq_slip_read(six, 6, row, 3, other, 8);
     fact("room for three points", PLQ_NUMBER(answer) == PLQ_BAD_LENGTH);
+    answer = plq_slip_read(spare, 6, row, 3, other, 8);
+    fact("room for three points, and the spare bit", PLQ_NUMBER(answer) == PLQ_SLIP_BITS);
     answers("room for half a line", plq_line(six, 6, text, 12), PLQ_BAD_LENGTH, 0);
     /* One chunk of three, k = 1: the row 1 2 3 lies nearest to that of the message 1, 1 0 0, and that is depth 2, not 1. */
     answers("too far", plq_decode(2, 3, 1, four, 1, four + 1, 3, row, 1, other, 1), PLQ_TOO_FAR, 0);

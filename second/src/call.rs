@@ -60,7 +60,7 @@ impl Kind {
             Kind::Decode => ("decode", (3, 2, 2), &[0, 1, 2, 3, 4, 5, 6, 7, 8, 9]),
             Kind::Distance => ("distance", (1, 2, 0), &[0, 2, 7]),
             Kind::SlipWrite => ("slip_write", (3, 2, 1), &[0, 1, 2, 3, 4, 5, 6, 7, 8]),
-            Kind::SlipRead => ("slip_read", (0, 1, 2), &[0, 1, 3, 4, 6, 7, 10, 11, 12]),
+            Kind::SlipRead => ("slip_read", (0, 1, 2), &[0, 1, 3, 4, 6, 7, 10, 11, 12, 13]),
             Kind::Line => ("line", (0, 1, 1), &[0, 7]),
             Kind::RollFirst => ("roll_first", (0, 1, 0), &[0, 1, 3, 4, 10, 11]),
         }

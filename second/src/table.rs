@@ -6,7 +6,7 @@
 use crate::call::{Header, Kind};
 use crate::generate::codes::{self, Sizes};
 use crate::generate::damage;
-use crate::generate::slips::{self, set_bits};
+use crate::generate::slips::{self, set_bits, Change};
 use crate::random::Random;
 use crate::reference::code::{Code, DEEPEST, LONGEST_ROW};
 use crate::reference::line;
@@ -32,7 +32,7 @@ type Group = fn() -> Vec<Bytes>;
 const GROUPS: [(&str, Group); 8] = [
     ("rows worked by hand", by_hand),
     (
-        "the six bytes cut and extended, spare bit and fill set",
+        "the six bytes cut and extended, spare bit and bits of the fill set",
         cuts,
     ),
     ("every other edition, field code 3", editions),
@@ -137,8 +137,13 @@ fn cuts() -> Vec<Bytes> {
         slips.push([six(), more].concat());
     }
     slips.push(with(six(), SPARE, 1));
-    // One point and one symbol of 2 bits leave 4 bits of fill.
-    slips.push(with(written(2, 1, 1, 1, 3), (28, 4), 15));
+    // One point and one symbol of 2 bits leave 4 bits of fill; three points and their symbols of 2 bits do, too.
+    for fill in [1, 2, 4, 8, 15] {
+        slips.push(with(written(2, 1, 1, 1, 3), (28, 4), fill));
+        slips.push(with(written(2, 1, 3, 2, 3), (36, 4), fill));
+    }
+    // The longest slip has no fill.
+    slips.push(with(written(8, 1, LONGEST_ROW, 1, 200), SPARE, 1));
     slips
 }
 
@@ -190,8 +195,10 @@ fn two_at_once() -> Vec<Bytes> {
         with(with(with(six(), FIELD, 3), DEPTH, 7), COUNT, 127),
         with(with(one.clone(), COUNT, 4), MESSAGE, 127),
         with(one, MESSAGE, 1)[..3].to_vec(),
-        twice[..4].to_vec(),
-        [&twice[..], &[0]].concat(),
+        with(twice.clone(), SPARE, 1)[..4].to_vec(),
+        [&with(twice.clone(), SPARE, 1)[..], &[0]].concat(),
+        with(twice.clone(), SPARE, 1),
+        with(twice.clone(), (36, 4), 1),
         twice,
     ]
 }
@@ -212,7 +219,7 @@ fn drawn() -> Vec<Bytes> {
     }
     while slips.len() < 200 {
         let drawn = slips::slip(random);
-        if drawn.changed {
+        if drawn.change != Change::None {
             slips.push(drawn.bytes);
         }
     }

@@ -27,6 +27,7 @@ pub fn all() -> Vec<Worked> {
     cases.extend(limits());
     cases.extend(two_at_once());
     cases.extend(slips());
+    cases.extend(loose_bits());
     cases.extend(rolls());
     cases
 }
@@ -272,6 +273,46 @@ fn slips() -> Vec<Worked> {
     ]
 }
 
+/// A slip that the reader refuses, whatever its buffers, and the line that says so.
+fn refuses_slip(name: &'static str, slip: &[u8], number: u8, line: &[u8]) -> [Worked; 2] {
+    [
+        Worked {
+            name,
+            call: Call::slip_read(slip.to_vec(), fresh(1), fresh(3)),
+            outcome: outcome(number, 0, vec![fresh(1), fresh(3)]),
+        },
+        Worked {
+            name,
+            call: Call::line(slip.to_vec(), fresh(line.len())),
+            outcome: outcome(0, line.len(), vec![line.to_vec()]),
+        },
+    ]
+}
+
+/// Bits that hold nothing. The header's last bit is the spare one. The smallest slip has 4 bits of fill: its last byte is
+/// 00 for the point, 01 for the symbol, and the fill. Points 1 1 and symbols 0 0 fill their byte.
+fn loose_bits() -> Vec<Worked> {
+    let bits = |name, slip: &[u8]| refuses_slip(name, slip, 13, b"13 0\n");
+    let long = |name, slip: &[u8]| refuses_slip(name, slip, 12, b"12 0\n");
+    [
+        bits(
+            "the spare bit of the six bytes",
+            &[0x10, 0x83, 0x07, 0x1B, 0x73, 0xB8],
+        ),
+        bits("the first bit of the fill", &[0x10, 0x00, 0x00, 0x18]),
+        bits("the last bit of the fill", &[0x10, 0x00, 0x00, 0x11]),
+        bits("spare bit and fill", &[0x10, 0x00, 0x01, 0x1F]),
+        bits("the spare bit and points 1 1", &[0x10, 0x01, 0x01, 0x50]),
+        long(
+            "the spare bit and a byte more",
+            &[0x10, 0x00, 0x01, 0x10, 0],
+        ),
+    ]
+    .into_iter()
+    .flatten()
+    .collect()
+}
+
 fn finds(name: &'static str, parts: &[&[u8]], answer: (u8, usize)) -> Worked {
     Worked {
         name,
@@ -297,6 +338,11 @@ fn rolls() -> Vec<Worked> {
         finds(
             "a slip with a repeated point",
             &[&[0x10, 0x01, 0x00, 0x00]],
+            (0, 4),
+        ),
+        finds(
+            "a slip with spare bit and fill",
+            &[&[0x10, 0x00, 0x01, 0x1F], &SIX_BYTES],
             (0, 4),
         ),
         finds("two bytes of a roll", &[&SIX_BYTES[..2]], (10, 0)),

@@ -6,6 +6,8 @@
 //! - `independent-slips.bin` and `independent-lines.txt` are a second table, made once by a program that shares nothing with
 //!   `second`: it drew the slips and gave the lines, by elimination and, for small codes, by trying all messages. That
 //!   program is not kept, so the lines are never made anew. In this file they alone check how a slip is read and refused.
+//!   It passed over spare bit and fill. Since these must be 0, three lines were changed to `13 0`, and no others: 19 and 209,
+//!   whose slips have the spare bit set, and 20, whose slip has the fill set. No other slip with such a bit got past 12.
 
 use second::reference::line;
 use second::reference::slip::{unpack, Slip};

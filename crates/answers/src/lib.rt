@@ -20,6 +20,7 @@ fn number_of(x: Refusal) -> usize
         Refusal::SlipShort => 10,
         Refusal::Edition => 11,
         Refusal::SlipLong => 12,
+        Refusal::SlipBits => 13,
     }
 }
 
@@ -39,6 +40,7 @@ fn place_of(x: Refusal) -> usize
         Refusal::SlipShort => 0,
         Refusal::Edition => 0,
         Refusal::SlipLong => 0,
+        Refusal::SlipBits => 0,
     }
 }
 

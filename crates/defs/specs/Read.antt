@@ -1,5 +1,5 @@
 -- What the slip reader answers, and what it leaves in the points and the row, for every input.
-use Prim.Native.Nat.{ℕ, _*_}
+use Prim.Native.Nat.{ℕ, _+_, _*_}
 use mathlib.Core.Path.{_≡_}
 use mathlib.Core.Bool.{_||_, not}
 use mathlib.Core.List.{List}
@@ -7,9 +7,9 @@ use lib.Dec.{eqb, ltb}
 use lib.ListN.{length}
 use Rattle.defs.specs.Refusal.{refuse, andThen, kept}
 use Rattle.defs.specs.Limits.{numbersVerdict, firstTwice}
-use Rattle.defs.specs.Slip.{editionIn, widthIn, depthIn, countIn, dimensionIn, sizeIn, pointsIn, rowIn}
+use Rattle.defs.specs.Slip.{editionIn, widthIn, depthIn, countIn, dimensionIn, sizeIn, pointsIn, rowIn, spareIn, fillIn}
 use Rattle.defs.specs.Write.{front}
-use Rattle.defs.specs.declared.Refusal.the-variants.{PointTwice, Length, SlipShort, Edition, SlipLong}
+use Rattle.defs.specs.declared.Refusal.the-variants.{PointTwice, Length, SlipShort, Edition, SlipLong, SlipBits}
 use Rattle.defs.specs.declared.Verdict.{Verdict}
 use Rattle.defs.specs.declared.Verdict.the-variants.{Fine, Refused}
 use Rattle.defs.specs.declared.Answer.the-variants.{Done, Refused as No}
@@ -27,11 +27,12 @@ firstVerdict bytes =
 unfoldable pub headVerdict : List ℕ → Verdict
 headVerdict bytes = andThen (firstVerdict bytes) (refuse (ltb (sizeIn bytes) (length bytes)) SlipLong Fine)
 
--- then 6, 7; the two numbers are the lengths of the point buffer and of the row buffer
+-- then 13, 6, 7; the two numbers are the lengths of the point buffer and of the row buffer
 unfoldable pub readVerdict : List ℕ → ℕ → ℕ → Verdict
 readVerdict bytes count n = andThen (headVerdict bytes)
+    (refuse (ltb 0 (spareIn bytes + fillIn bytes)) SlipBits
     (refuse (ltb (firstTwice (pointsIn bytes)) (countIn bytes)) (PointTwice (firstTwice (pointsIn bytes)))
-    (refuse (ltb count (countIn bytes) || ltb n (depthIn bytes * countIn bytes)) Length Fine))
+    (refuse (ltb count (countIn bytes) || ltb n (depthIn bytes * countIn bytes)) Length Fine)))
 
 -- done, with the code's numbers, or refused, with 0 for each
 unfoldable pub reading : Verdict → List ℕ → SlipRead

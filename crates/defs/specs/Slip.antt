@@ -74,3 +74,13 @@ pointsIn bytes = symbolsIn bytes 0 (countIn bytes)
 
 unfoldable pub rowIn : List ℕ → List ℕ
 rowIn bytes = symbolsIn bytes (countIn bytes) (depthIn bytes * countIn bytes)
+
+-- what stands in the bits that hold nothing: the spare bit, and the fill behind the last symbol
+unfoldable pub spareIn : List ℕ → ℕ
+spareIn bytes = numberAt 1 23 (allBits 8 bytes)
+
+unfoldable pub usedIn : List ℕ → ℕ
+usedIn bytes = 24 + widthIn bytes * (countIn bytes + depthIn bytes * countIn bytes)
+
+unfoldable pub fillIn : List ℕ → ℕ
+fillIn bytes = numberAt (8 * sizeIn bytes - usedIn bytes) (usedIn bytes) (allBits 8 bytes)

@@ -20,6 +20,7 @@ pub enum Refusal {
     SlipShort,
     Edition,
     SlipLong,
+    SlipBits,
 }
 
 // What a check finds.

@@ -10,7 +10,7 @@ use Rattle.defs.specs.Limits.{longest, firstTwice}
 use Rattle.defs.specs.Slip.{countIn, pointsIn}
 use Rattle.defs.specs.Read.{firstVerdict, headVerdict, readVerdict}
 use Rattle.defs.specs.declared.Refusal.{Refusal}
-use Rattle.defs.specs.declared.Refusal.the-variants.{Field, Points, Dimension, PointTwice, Length, SlipShort, Edition, SlipLong}
+use Rattle.defs.specs.declared.Refusal.the-variants.{Field, Points, Dimension, PointTwice, Length, SlipShort, Edition, SlipLong, SlipBits}
 use Rattle.theory.proofs.Verdict.{Every, every-fine, every-plain, every-place, every-then}
 use Rattle.slip.proofs.Reader.{sound, points-few}
 use Rattle.slip.proofs.Refusals.{first-every}
@@ -32,6 +32,7 @@ module _ {P : Refusal → Type 0} (told : (x : Refusal) → readers (numberOf x)
   unfolding readVerdict
   read-every count n =
       every-then (headVerdict bytes) _ head-every
-      (λ fine. every-place (firstTwice (pointsIn bytes)) (countIn bytes) _ _
+      (λ fine. every-plain _ _ _ (told SlipBits refl (lit< tt))
+      (every-place (firstTwice (pointsIn bytes)) (countIn bytes) _ _
       (λ l. told (PointTwice _) refl (omega (arith, points-few bytes (sound bytes fine))))
-      (every-plain _ _ _ (told Length refl (lit< tt)) every-fine))
+      (every-plain _ _ _ (told Length refl (lit< tt)) every-fine)))

@@ -1,19 +1,13 @@
 -- The first three bytes have the header: what stands behind them changes none of its numbers.
-use Prim.Native.Nat.{ℕ, _+_, _*_, _≤_}
+use Prim.Native.Nat.{ℕ, _+_, _≤_}
 use mathlib.Core.Path.{_≡_, refl, sym, _∙_}
 use mathlib.Core.List.{List, [], _∷_, _++_, append-assoc}
-use native.Mathlib.Nat.{mul-zero, mul-suc, add-comm}
 use native.Mathlib.Omega.{arith}
-use lib.ListN.{length, take, drop, length-append, take-append-drop}
+use lib.ListN.{length, take, drop, take-append-drop}
 use lib.Seq.{length-take-le}
 use Rattle.defs.specs.Limits.{numbersVerdict}
 use Rattle.defs.specs.Slip.{allBits, numberAt, editionIn, widthIn, depthIn, countIn, dimensionIn, sizeIn}
-use Rattle.slip.proofs.Bits.{length-bits, number-front}
-
-length-all-bits : (w : ℕ) (s : List ℕ) → length (allBits w s) ≡ w * length s
-unfolding allBits
-length-all-bits w [] = sym (mul-zero w)
-length-all-bits w (x ∷ s) = rw (length-append, length-bits, length-all-bits w s, mul-suc) (add-comm w (w * length s))
+use Rattle.slip.proofs.Bits.{length-all-bits, number-front}
 
 all-bits-append : (w : ℕ) (s t : List ℕ) → allBits w (s ++ t) ≡ allBits w s ++ allBits w t
 unfolding allBits

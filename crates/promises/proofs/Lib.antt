@@ -13,3 +13,4 @@ pub mod Packed
 pub mod Unpacked
 pub mod Roll
 pub mod Walk
+pub mod OneSlip

@@ -70,7 +70,7 @@ pub refused-parts : (roll : List ℕ) (x : Refusal) → rollVerdict roll ≡ Ref
 unfolding firstPart restPart kept
 refused-parts roll x e = (rw e, rw e)
 
-rolls-same : (a b : List ℕ) → length a ≡ length b → firstVerdict a ≡ firstVerdict b → rollVerdict a ≡ rollVerdict b
+pub rolls-same : (a b : List ℕ) → length a ≡ length b → firstVerdict a ≡ firstVerdict b → rollVerdict a ≡ rollVerdict b
 unfolding rollVerdict
 rolls-same [] [] l e = refl
 rolls-same (x ∷ s) (y ∷ t) l e = e

@@ -1,16 +1,16 @@
 -- A code and a row that were written as a slip are read from it again.
-use Prim.Native.Nat.{ℕ, suc, _+_, _*_, _<_, _≤_}
+use Prim.Native.Nat.{ℕ, suc, _+_, _*_, _-_, _<_, _≤_}
 use mathlib.Core.Path.{_≡_, refl, ap, sym, _∙_}
 use mathlib.Core.List.{List, _++_}
 use native.Mathlib.Nat.{mul-suc, mul-comm, mul-le-mul-left, mod-eq-of-lt, zero-add}
 use native.Mathlib.Omega.{arith}
-use lib.ListN.{length, getD, take, List·getD-append}
+use lib.ListN.{length, getD, take, length-append, List·getD-append}
 use lib.Seq.{getD-append-add}
 use borrow.Author.Tests.{ltb-false}
 use Rattle.defs.specs.Place.{Symbols}
 use Rattle.defs.specs.Refusal.{answer, kept}
 use Rattle.defs.specs.Limits.{numbersVerdict, firstTwice, codeVerdict, Inside}
-use Rattle.defs.specs.Slip.{allBits, numberAt, slipSize, slipBits, slipOf, editionIn, widthIn, depthIn, countIn, dimensionIn, symbolsIn, pointsIn, rowIn}
+use Rattle.defs.specs.Slip.{allBits, numberAt, slipSize, slipBits, slipOf, editionIn, widthIn, depthIn, countIn, dimensionIn, symbolsIn, pointsIn, rowIn, spareIn, usedIn, sizeIn, fillIn}
 use Rattle.defs.specs.Write.{front, writeVerdict, Written}
 use Rattle.defs.specs.Read.{firstVerdict, headVerdict, readVerdict, Read}
 use Rattle.defs.specs.declared.Verdict.the-variants.{Fine}
@@ -20,8 +20,8 @@ use Rattle.theory.proofs.Place.{length-tab, tab-same, tab-getD}
 use Rattle.theory.proofs.Verdict.{refuse-fine, then-fine, answer-done}
 use Rattle.slip.specs.declared.Head.{Head}
 use Rattle.slip.specs.Head.{headerBits, Fitting, Heads}
-use Rattle.slip.proofs.Bits.{number-symbol}
-use Rattle.slip.proofs.HeaderBits.{header-edition, header-width, header-depth, header-count, header-dimension}
+use Rattle.slip.proofs.Bits.{length-all-bits, number-beyond, number-symbol}
+use Rattle.slip.proofs.HeaderBits.{header-edition, header-width, header-depth, header-count, header-dimension, header-spare}
 use Rattle.slip.proofs.Packed.{number-back, slip-bits-are, in-header, behind-header}
 use Rattle.slip.proofs.Writer.{inside-width, inside-fits, inside-symbols, writable}
 use Rattle.slip.proofs.Front.{take-front}
@@ -105,12 +105,29 @@ module _ (m r k : ℕ) (points w : List ℕ) where
           let first : firstVerdict slip ≡ Fine = sym (first-fine slip head opened numbers-fine _ refl (omega (arith, size))) in
           sym (head-fine slip first (omega (arith, size, size-in slip head heads-back)))
 
+      -- nothing stands in the bits that hold nothing
+      spare-back : spareIn (slipOf m r k points w) ≡ 0
+      unfolding spareIn
+      spare-back = field-back 1 23 (omega arith) ∙ header-spare m r k (length points)
+
+      fill-back : fillIn (slipOf m r k points w) ≡ 0
+      unfolding fillIn usedIn sizeIn head slipOf slipSize
+      fill-back =
+          let N = length points + length w in
+          let S = slipBits m r k points w in
+          let left = 8 * slipSize m N - (24 + m * N) in
+          rw (← heads-back .m-is, ← heads-back .r-is, ← heads-back .count-is, ← n)
+          (number-back left (24 + m * N) (slipSize m N) S (slip-bits-are m r k points w) (omega (arith, mul-comm m N))
+          ∙ behind-header m r k points w left (m * N)
+          ∙ number-beyond left (m * N) (allBits m (points ++ w)) (omega (arith, length-all-bits m (points ++ w), ap (λ (x : ℕ). m * x) (length-append points w))))
+
       verdict-back : (points₀ row₀ : List ℕ) → length points ≤ length points₀ → length w ≤ length row₀
           → readVerdict (slipOf m r k points w) (length points₀) (length row₀) ≡ Fine
       unfolding head
       verdict-back points₀ row₀ a b =
-          let searched : Searched (slipOf m r k points w) head (firstTwice points) = record { fine = head-back; heads = heads-back; twice-is = rw points-back } in
-          read-fine (slipOf m r k points w) points₀ row₀ head _ searched points-once a (omega (arith, n))
+          let searched : Searched (slipOf m r k points w) head 0 (firstTwice points) =
+          record { fine = head-back; heads = heads-back; loose-is = omega (arith, spare-back, fill-back); twice-is = rw points-back } in
+          sym (read-fine (slipOf m r k points w) (length points₀) (length row₀) head 0 _ searched (omega arith) points-once a (omega (arith, n)))
 
       -- a slip is read as what it was made of
       pub slip-read-back : (points₀ row₀ : List ℕ) → length points ≤ length points₀ → length w ≤ length row₀

@@ -19,20 +19,20 @@ use Rattle.slip.proofs.Taken.{length-points, length-row, inside, decodable}
 use Rattle.promises.proofs.Slip.{answered}
 
 module _ (bytes points row points′ row′ : List ℕ) (s : SlipRead) (x : Read bytes points row s points′ row′) (d : ℕ) (done : s .answer ≡ Done d) where
-  fine : readVerdict bytes (length points) (length row) ≡ Fine
+  pub fine : readVerdict bytes (length points) (length row) ≡ Fine
   fine = answer-done _ 0 d (sym (answered x) ∙ done)
 
   -- its numbers are those that stand in the slip, and the buffers begin with its points and its row
-  s-is : s ≡ reading Fine bytes
+  pub s-is : s ≡ reading Fine bytes
   s-is = x .answers ∙ ap (λ (v : Verdict). reading v bytes) fine
 
-  points-in : take (countIn bytes) points′ ≡ pointsIn bytes
+  pub points-in : take (countIn bytes) points′ ≡ pointsIn bytes
   unfolding kept
   points-in =
       let e : points′ ≡ front (pointsIn bytes) points = x .leaves-points ∙ rw fine in
       ap (take (countIn bytes)) e ∙ take-front (pointsIn bytes) points (countIn bytes) (length-points bytes)
 
-  row-in : take (depthIn bytes * countIn bytes) row′ ≡ rowIn bytes
+  pub row-in : take (depthIn bytes * countIn bytes) row′ ≡ rowIn bytes
   unfolding kept
   row-in =
       let e : row′ ≡ front (rowIn bytes) row = x .leaves-row ∙ rw fine in

@@ -1,7 +1,7 @@
 -- The walk over a roll: the slips found and what is left are the roll, up to the first refusal, and what the writer made is found again.
 use Prim.Native.Nat.{ℕ, zero, suc, _<_, _≤_}
-use mathlib.Core.Path.{_≡_, refl, ap, _∙_}
-use mathlib.Core.List.{List, [], _∷_, _++_, append-assoc}
+use mathlib.Core.Path.{_≡_, refl, ap, sym, _∙_}
+use mathlib.Core.List.{List, [], _∷_, _++_, append-assoc, append-nil}
 use native.Mathlib.Decide.{ℕ-discrete}
 use native.Mathlib.Omega.{arith}
 use lib.ListN.{length, getD, take, length-append}
@@ -14,7 +14,7 @@ use Rattle.defs.specs.declared.Verdict.the-variants.{Fine, Refused}
 use Rattle.defs.specs.declared.Answer.the-variants.{Done}
 use Rattle.roll.proofs.Parts.{none-found, parts-join, first-within}
 use Rattle.promises.proofs.RoundTrip.{written-whole}
-use Rattle.promises.proofs.Roll.{first-some, alone, front-first, front-rest}
+use Rattle.promises.proofs.Roll.{first-some, refused-parts, alone, front-first, front-rest, first-whole}
 
 module _ (t : ℕ) (roll : List ℕ) where
   step-end : length (firstPart roll) ≡ 0 → walkFor (suc t) roll ≡ walkEnd roll
@@ -78,19 +78,24 @@ walked roll =
 
 -- ---- slips that were joined
 
-whole-walk : (slips : List (List ℕ)) → ((i : ℕ) → i < length slips → headVerdict (getD slips i []) ≡ Fine)
-    → (t : ℕ) → length (joined slips) ≤ t → walkFor t (joined slips) ≡ record { slips = slips; left = []; ended = Fine }
-unfolding joined walkEnd walkOn walkFor rollVerdict
-whole-walk [] h zero l = refl
-whole-walk [] h (suc t) l = step-end t [] (omega (arith, first-within []))
-whole-walk (s ∷ slips) h zero l = absurd (omega (arith, alone s [] (h 0 (omega arith)) .long, length-append s (joined slips)))
-whole-walk (s ∷ slips) h (suc t) l =
+-- in front of something that begins with no slip
+pub whole-walk : (slips : List (List ℕ)) → ((i : ℕ) → i < length slips → headVerdict (getD slips i []) ≡ Fine) → (left : List ℕ) → length (firstPart left) ≡ 0
+    → (t : ℕ) → length (joined slips ++ left) ≤ t → walkFor t (joined slips ++ left) ≡ record { slips = slips; left = left; ended = rollVerdict left }
+unfolding joined walkEnd walkOn walkFor
+whole-walk [] h left none zero l = refl
+whole-walk [] h left none (suc t) l = step-end t left none
+whole-walk (s ∷ slips) h left none zero l =
+    absurd (omega (arith, alone s [] (h 0 (omega arith)) .long, length-append s (joined slips), length-append (s ++ joined slips) left))
+whole-walk (s ∷ slips) h left none (suc t) l =
     let e = h 0 (omega arith) in
-    let p = front-first s (joined slips) e in
-    let q = front-rest s (joined slips) e in
+    let rest : List ℕ = joined slips ++ left in
+    let p = front-first s rest e in
+    let q = front-rest s rest e in
     let some : 3 ≤ length s = alone s [] e .long in
-    step-on t (s ++ joined slips) (λ z. omega (arith, ap length p))
-    ∙ rw (p, q, whole-walk slips (λ i b. h (suc i) (omega arith)) t (omega (arith, length-append s (joined slips))))
+    let long : length (s ++ rest) ≤ suc t = rw (← append-assoc s (joined slips) left) l in
+    rw (append-assoc s (joined slips) left)
+    (step-on t (s ++ rest) (λ z. omega (arith, ap length p))
+    ∙ rw (p, q, whole-walk slips (λ i b. h (suc i) (omega arith)) left none t (omega (arith, length-append s rest))))
 
 -- bytes that the writer left, where it was done
 pub record Made (s : List ℕ) : Type 0 where
@@ -110,5 +115,25 @@ made-whole s x = rw (x .is) (written-whole (x .m) (x .r) (x .k) (x .d) (x .point
 
 -- A ROLL THAT THE WRITER MADE IS TAKEN APART INTO EXACTLY THE SLIPS WRITTEN, AND IS DONE
 pub made-walk : (slips : List (List ℕ)) → ((i : ℕ) → i < length slips → Made (getD slips i [])) → walk (joined slips) ≡ record { slips = slips; left = []; ended = Fine }
-unfolding walk
-made-walk slips h = whole-walk slips (λ i l. made-whole _ (h i l)) (length (joined slips)) (omega arith)
+unfolding walk rollVerdict
+made-walk slips h =
+    rw (append-nil (joined slips)) at (whole-walk slips (λ i l. made-whole _ (h i l)) [] (omega (arith, first-within [])) (length (joined slips)) (omega (arith, length-append (joined slips) [])))
+
+-- ---- what a walk has found
+
+firsts-whole : (slips : List (List ℕ)) (roll left : List ℕ) → Firsts slips roll left → (i : ℕ) → i < length slips → headVerdict (getD slips i []) ≡ Fine
+firsts-whole [] roll left h i l = absurd (omega arith)
+firsts-whole (s ∷ slips) roll left h zero l = rw (h .1) (first-whole roll (h .0))
+firsts-whole (s ∷ slips) roll left h (suc i) l = firsts-whole slips (restPart roll) left (h .2) i (omega arith)
+
+-- each is a slip by its header and its size
+pub found-whole : (roll : List ℕ) (i : ℕ) → i < length (walk roll .slips) → headVerdict (getD (walk roll .slips) i []) ≡ Fine
+found-whole roll = firsts-whole (walk roll .slips) roll (walk roll .left) (walked roll .each)
+
+-- and what is left begins with none
+pub left-none : (roll : List ℕ) → length (firstPart (walk roll .left)) ≡ 0
+left-none roll = go (walk roll .ended) refl
+  where
+    go : (v : Verdict) → walk roll .ended ≡ v → length (firstPart (walk roll .left)) ≡ 0
+    go Fine e = rw (walked roll .done e) (omega (arith, first-within []))
+    go (Refused x) e = rw (refused-parts (walk roll .left) x (sym (walked roll .ends) ∙ e) .0)

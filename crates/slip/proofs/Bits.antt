@@ -2,15 +2,16 @@
 use Prim.Native.Nat.{ℕ, zero, suc, _+_, _*_, _-_, _/_, _%_, _^_, _<_, _≤_}
 use mathlib.Core.Path.{_≡_, refl, ap, sym, _∙_}
 use mathlib.Core.List.{List, [], _∷_, _++_}
-use native.Mathlib.Nat.{zero-add, add-zero, suc-add, add-suc, add-comm, add-assoc, zero-mul, mul-zero, mul-suc, add-mul, mul-assoc, mul-le-mul-right, zero-mod, mod-one, mod-lt, pow-suc}
+use native.Mathlib.Nat.{zero-add, add-zero, suc-add, add-suc, add-comm, add-assoc, zero-mul, mul-zero, mul-suc, add-mul, mul-assoc, mul-le-mul-right, zero-mod, mod-one, mod-lt, mod-eq-of-lt, div-add-mod', div-lt-iff-lt-mul, mul-comm, pow-suc}
 use native.Mathlib.Numerals.{one-add}
 use native.Mathlib.Omega.{arith}
 use lib.Dec.{lit<}
-use lib.ListN.{length, getD, List·getD-append}
+use lib.ListN.{length, getD, length-append, List·getD-append, List·getD-eq-default}
 use lib.Pow.{pow-add, mod-pow-add, high, low}
 use lib.Seq.{getD-append-add}
-use Rattle.defs.specs.Place.{Symbols}
+use Rattle.defs.specs.Place.{tab, Symbols}
 use Rattle.defs.specs.Slip.{bits, allBits, numberAt}
+use Rattle.theory.proofs.Place.{getD-tab}
 
 -- ---- lists of bits
 
@@ -38,6 +39,11 @@ pub all-bits-are : (w : ℕ) (s : List ℕ) → Symbols 1 (allBits w s)
 unfolding allBits
 all-bits-are w [] i = lit< tt
 all-bits-are w (x ∷ s) i = symbols-append 1 (bits w x) (allBits w s) (bits-are w x) (all-bits-are w s) i
+
+pub length-all-bits : (w : ℕ) (s : List ℕ) → length (allBits w s) ≡ w * length s
+unfolding allBits
+length-all-bits w [] = sym (mul-zero w)
+length-all-bits w (x ∷ s) = rw (length-append, length-bits, length-all-bits w s, mul-suc) (add-comm w (w * length s))
 
 -- ---- numbers
 
@@ -69,6 +75,22 @@ number-inside a w c n p s e h =
     (rw (high (numberAt a p s * 2 ^ w + numberAt w (p + a) s) c (number-below c (p + a + w) s h))
     (low (numberAt a p s) w (number-below w (p + a) s h)))
 
+pub number-one : (p : ℕ) (s : List ℕ) → numberAt 1 p s ≡ getD s p 0
+unfolding numberAt
+number-one p s = omega arith
+
+-- equal numbers have equal bits
+pub bits-told : (w p q : ℕ) (s t : List ℕ) → Symbols 1 s → Symbols 1 t → numberAt w p s ≡ numberAt w q t
+    → (i : ℕ) → i < w → getD s (p + i) 0 ≡ getD t (q + i) 0
+bits-told w p q s t hs ht e i l =
+    let c = w - 1 - i in
+    let split : i + (1 + c) ≡ w = omega arith in
+    sym (number-one (p + i) s)
+    ∙ sym (number-inside i 1 c w p s split hs)
+    ∙ ap (λ (x : ℕ). x / 2 ^ c % 2 ^ 1) e
+    ∙ number-inside i 1 c w q t split ht
+    ∙ number-one (q + i) t
+
 -- bits behind others
 pub number-front : (w p : ℕ) (s t : List ℕ) → p + w ≤ length s → numberAt w p (s ++ t) ≡ numberAt w p s
 number-front w p s t h = number-same w p p (s ++ t) s (λ i l. List·getD-append s t 0 (p + i) (omega arith))
@@ -93,10 +115,14 @@ pub number-fields : (w v x : ℕ) (t : List ℕ) → numberAt (w + v) 0 (bits w 
 number-fields w v x t =
     rw (number-split, number-field, ← number-past v 0 w x t) (ap (λ (p : ℕ). x % 2 ^ w * 2 ^ v + numberAt v p (bits w x ++ t)) (omega arith))
 
-number-nil : (w p : ℕ) → numberAt w p [] ≡ 0
+pub number-nil : (w p : ℕ) → numberAt w p [] ≡ 0
 unfolding numberAt
 number-nil zero p = refl
 number-nil (suc w) p = rw (number-nil w (suc p)) (rw zero-mul)
+
+-- past the end stands 0
+pub number-beyond : (w p : ℕ) (s : List ℕ) → length s ≤ p → numberAt w p s ≡ 0
+number-beyond w p s h = number-same w p 0 s [] (λ i l. List·getD-eq-default s 0 {n = p + i} (omega arith)) ∙ number-nil w 0
 
 -- a symbol among those of its width
 pub number-symbol : (w : ℕ) (s : List ℕ) (j : ℕ) → numberAt w (w * j) (allBits w s) ≡ getD s j 0 % 2 ^ w
@@ -105,3 +131,19 @@ number-symbol w [] j = rw zero-mod (number-nil w (w * j))
 number-symbol w (x ∷ s) zero = rw mul-zero (number-field w x (allBits w s))
 number-symbol w (x ∷ s) (suc j) =
     rw (mul-suc, add-comm, number-past w (w * j) w x (allBits w s)) (number-symbol w s j)
+
+-- the bits of the symbols that were read out of bits are these bits
+pub symbols-told : (m p n : ℕ) (s : List ℕ) → 0 < m → Symbols 1 s → (i : ℕ) → i < m * n
+    → getD (allBits m (tab (λ j. numberAt m (p + m * j) s) n)) i 0 ≡ getD s (p + i) 0
+symbols-told m p n s pos h i l =
+    let T : List ℕ = tab (λ j. numberAt m (p + m * j) s) n in
+    let j = i / m in
+    let b = i % m in
+    let whole : m * j + b ≡ i = ap (λ (x : ℕ). x + i % m) (mul-comm m (i / m)) ∙ div-add-mod' i m in
+    let there : j < n = div-lt-iff-lt-mul pos .1 (omega (arith, mul-comm m n)) in
+    let symbol : numberAt m (m * j) (allBits m T) ≡ numberAt m (p + m * j) s =
+    number-symbol m T j ∙ rw (getD-tab (λ j. numberAt m (p + m * j) s) n j there) (mod-eq-of-lt (number-below m (p + m * j) s h)) in
+    let told : getD (allBits m T) (m * j + b) 0 ≡ getD s (p + m * j + b) 0 =
+    bits-told m (m * j) (p + m * j) (allBits m T) s (all-bits-are m T) h symbol b (mod-lt i pos) in
+    let place : p + m * j + b ≡ p + i = omega arith in
+    rw (whole, place) at told

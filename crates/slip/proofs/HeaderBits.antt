@@ -50,6 +50,11 @@ module _ (m r k count : ℕ) where
   unfolding headerBits widthOf fieldCode least
   header-width w = rw (number-past 2 0 4 1, number-field 2 (fieldCode m)) (by-width (λ v. widthOf (fieldCode v % 4) ≡ v) refl refl refl m w)
 
+  pub header-spare : numberAt 1 23 (headerBits m r k count) ≡ 0
+  unfolding headerBits
+  header-spare =
+      rw (number-past 1 19 4 1, number-past 1 17 2 (fieldCode m), number-past 1 14 3 (r - 1), number-past 1 7 7 (count - 1), number-past 1 0 7 (k - 1), number-bits 1 0)
+
   module _ (s : Fitting r k count) where
     pub header-depth : numberAt 3 6 (headerBits m r k count) + 1 ≡ r
     unfolding headerBits

@@ -6,4 +6,5 @@ pub mod Front
 pub mod Writer
 pub mod Reader
 pub mod Taken
+pub mod Canonical
 pub mod Refusals

@@ -1,18 +1,19 @@
 -- Points and symbols in bytes, over the width: how a byte is packed, how a symbol is read out of its byte, and what bits the bytes of a slip have.
 use Prim.Native.Nat.{ℕ, _+_, _*_, _-_, _/_, _%_, _^_, _<_, _≤_}
-use mathlib.Core.Path.{_≡_, refl, sym, _∙_}
+use mathlib.Core.Path.{_≡_, refl, ap, sym, _∙_}
 use mathlib.Core.List.{List, _++_}
 use native.Mathlib.Nat.{zero-add, sub-self, sub-zero, mul-zero, mul-one, mul-add, mul-assoc, mul-le-mul-left, mod-eq-of-lt, lt-of-lt-of-le}
 use native.Mathlib.Omega.{arith}
+use lib.Dec.{lit<}
 use lib.ListN.{length, getD}
 use lib.Pow.{pow-mono}
 use Rattle.defs.specs.Field.{Width}
 use Rattle.defs.specs.Place.{tab, Symbols}
 use Rattle.defs.specs.Slip.{bits, allBits, numberAt, fieldCode, slipBits}
-use Rattle.theory.proofs.Place.{getD-tab}
+use Rattle.theory.proofs.Place.{tab-same}
 use Rattle.theory.proofs.Width.{by-width}
 use Rattle.slip.specs.Head.{headerBits}
-use Rattle.slip.proofs.Bits.{symbols-append, bits-are, all-bits-are, number-same, number-below, number-split, number-inside, number-front, number-behind, number-symbol}
+use Rattle.slip.proofs.Bits.{symbols-append, bits-are, all-bits-are, number-same, number-below, number-split, number-inside, number-front, number-behind, number-symbol, symbols-told}
 
 -- ---- a byte packed, a symbol a turn; left of its symbols are still to come
 
@@ -48,7 +49,7 @@ module _ (m i : ℕ) (s : List ℕ) (w : Width m) where
 pub inside-byte : (j m : ℕ) → Width m → (24 + m * j) % 8 + m ≤ 8
 inside-byte j = by-width (λ m. (24 + m * j) % 8 + m ≤ 8) (omega arith) (omega arith) (omega arith)
 
-byte-is : (bytes : List ℕ) → Symbols 8 bytes → (q : ℕ) → numberAt 8 (8 * q) (allBits 8 bytes) ≡ getD bytes q 0
+pub byte-is : (bytes : List ℕ) → Symbols 8 bytes → (q : ℕ) → numberAt 8 (8 * q) (allBits 8 bytes) ≡ getD bytes q 0
 byte-is bytes s q = number-symbol 8 bytes q ∙ mod-eq-of-lt (s q)
 
 pub symbol-in-byte : (m j : ℕ) (bytes : List ℕ) → Width m → Symbols 8 bytes
@@ -61,22 +62,10 @@ symbol-in-byte m j bytes w s =
 
 -- ---- the bits of bytes that were made of bits
 
-number-one : (p : ℕ) (s : List ℕ) → numberAt 1 p s ≡ getD s p 0
-unfolding numberAt
-number-one p s = omega arith
-
 -- bit p of them is bit p
 bit-back : (n p : ℕ) (s : List ℕ) → Symbols 1 s → p < 8 * n → getD (allBits 8 (tab (λ i. numberAt 8 (8 * i) s) n)) p 0 ≡ getD s p 0
 bit-back n p s h l =
-    let bytes = tab (λ i. numberAt 8 (8 * i) s) n in
-    let q = p / 8 in
-    let e : p % 8 + (1 + (7 - p % 8)) ≡ 8 = omega arith in
-    let f : 8 * q + p % 8 ≡ p = omega arith in
-    let byte : numberAt 8 (8 * q) (allBits 8 bytes) ≡ numberAt 8 (8 * q) s =
-    number-symbol 8 bytes q ∙ rw (getD-tab (λ i. numberAt 8 (8 * i) s) n q (omega arith)) (mod-eq-of-lt (number-below 8 (8 * q) s h)) in
-    let there = number-inside (p % 8) 1 (7 - p % 8) 8 (8 * q) (allBits 8 bytes) e (all-bits-are 8 bytes) in
-    let here = number-inside (p % 8) 1 (7 - p % 8) 8 (8 * q) s e h in
-    sym (number-one p (allBits 8 bytes)) ∙ (rw f at (sym there)) ∙ rw byte (rw f at here) ∙ number-one p s
+    ap (λ (t : List ℕ). getD (allBits 8 t) p 0) (tab-same _ _ n (λ i b. rw (zero-add (8 * i)))) ∙ symbols-told 8 0 n s (lit< tt) h p l ∙ ap (λ (x : ℕ). getD s x 0) (zero-add p)
 
 -- so every field is there again
 pub number-back : (w p n : ℕ) (s : List ℕ) → Symbols 1 s → p + w ≤ 8 * n → numberAt w p (allBits 8 (tab (λ i. numberAt 8 (8 * i) s) n)) ≡ numberAt w p s

@@ -10,18 +10,18 @@ use lib.ListN.{length, take}
 use borrow.Author.Tests.{lt-ltb, le-ltb, eq-eqb, ne-eqb, ltb-false, eqb-true, not-false}
 use Rattle.defs.specs.Refusal.{refuse, andThen, kept}
 use Rattle.defs.specs.Limits.{longest, numbersVerdict, firstTwice}
-use Rattle.defs.specs.Slip.{slipSize, longestSlip, editionIn, widthIn, depthIn, countIn, dimensionIn, sizeIn, symbolsIn, pointsIn, rowIn}
+use Rattle.defs.specs.Slip.{slipSize, longestSlip, editionIn, widthIn, depthIn, countIn, dimensionIn, sizeIn, symbolsIn, pointsIn, rowIn, spareIn, fillIn}
 use Rattle.defs.specs.Write.{front}
 use Rattle.defs.specs.Read.{firstVerdict, headVerdict, readVerdict, reading, Read}
 use Rattle.defs.specs.declared.Refusal.{Refusal}
-use Rattle.defs.specs.declared.Refusal.the-variants.{PointTwice, Length, SlipShort, Edition, SlipLong}
+use Rattle.defs.specs.declared.Refusal.the-variants.{PointTwice, Length, SlipShort, Edition, SlipLong, SlipBits}
 use Rattle.defs.specs.declared.Verdict.{Verdict}
 use Rattle.defs.specs.declared.Verdict.the-variants.{Fine, Refused}
 use Rattle.defs.specs.declared.Answer.the-variants.{Done}
 use Rattle.defs.specs.declared.SlipRead.{SlipRead}
 use Rattle.theory.specs.Limits.{Numbers}
 use Rattle.theory.proofs.Limits.{numbers-known, count-small}
-use Rattle.theory.proofs.Verdict.{refuse-fine, then-fine}
+use Rattle.theory.proofs.Verdict.{or-false, refuse-fine, then-fine}
 use Rattle.slip.specs.declared.Head.{Head}
 use Rattle.slip.specs.Head.{Heads, Holds}
 use Rattle.slip.proofs.Writer.{size-top}
@@ -177,48 +177,82 @@ module _ (bytes : List ℕ) (h : Head) (s : Heads bytes h) where
   unfolding rowIn
   row-read row row′ e = rw (s .r-is, s .count-is) at e
 
--- ---- the ways out of the call
+-- ---- the checks of the whole slip
 
--- a sound slip whose points were searched
-pub record Searched (bytes : List ℕ) (h : Head) (twice : ℕ) : Type 0 where
+-- a sound slip whose loose bits and whose points were looked at
+pub record Searched (bytes : List ℕ) (h : Head) (loose twice : ℕ) : Type 0 where
   pub fine : headVerdict bytes ≡ Fine
   pub heads : Heads bytes h
+  pub loose-is : loose ≡ spareIn bytes + fillIn bytes
   pub twice-is : twice ≡ firstTwice (pointsIn bytes)
 
-module _ (bytes points row : List ℕ) where
-  refused-read : (x : Refusal) (s : SlipRead) → Refused x ≡ readVerdict bytes (length points) (length row) → s ≡ reading (Refused x) [] → Read bytes points row s points row
-  unfolding reading kept
-  refused-read x s e a = record { answers = rw (← e) a; leaves-points = rw (← e); leaves-row = rw (← e) }
-
-  pub read-head : (x : Refusal) (s : SlipRead) → headVerdict bytes ≡ Refused x → s ≡ reading (Refused x) [] → Read bytes points row s points row
+module _ (bytes : List ℕ) (count n : ℕ) where
+  pub read-head : (x : Refusal) → headVerdict bytes ≡ Refused x → Refused x ≡ readVerdict bytes count n
   unfolding readVerdict andThen
-  read-head x s e a = refused-read x s (rw e) a
+  read-head x e = rw e
 
-  module _ (h : Head) (twice : ℕ) (k : Searched bytes h twice) where
-    -- such a slip is judged by that search and by the room that there is
+  module _ (h : Head) (loose twice : ℕ) (k : Searched bytes h loose twice) where
+    -- such a slip is judged by what was found and by the room that there is
     by-room : (v : Verdict)
-        → v ≡ refuse (ltb twice (h .count)) (PointTwice twice) (refuse (ltb (length points) (h .count) || ltb (length row) (h .r * h .count)) Length Fine)
-        → v ≡ readVerdict bytes (length points) (length row)
+        → v ≡ refuse (ltb 0 loose) SlipBits (refuse (ltb twice (h .count)) (PointTwice twice) (refuse (ltb count (h .count) || ltb n (h .r * h .count)) Length Fine))
+        → v ≡ readVerdict bytes count n
     unfolding readVerdict andThen
-    by-room v e = e ∙ rw (k .fine, k .twice-is, k .heads .r-is, k .heads .count-is)
+    by-room v e = e ∙ rw (k .fine, k .loose-is, k .twice-is, k .heads .r-is, k .heads .count-is)
 
-    pub read-twice : (s : SlipRead) → twice < h .count → s ≡ reading (Refused (PointTwice twice)) [] → Read bytes points row s points row
+    pub read-loose : 0 < loose → Refused SlipBits ≡ readVerdict bytes count n
     unfolding refuse
-    read-twice s l a = refused-read _ s (by-room _ (rw (lt-ltb twice (h .count) l))) a
+    read-loose l = by-room _ (rw (lt-ltb 0 loose l))
 
-    module _ (once : h .count ≤ twice) where
-      pub read-points : (s : SlipRead) → length points < h .count → s ≡ reading (Refused Length) [] → Read bytes points row s points row
+    module _ (none : loose ≤ 0) where
+      pub read-twice : twice < h .count → Refused (PointTwice twice) ≡ readVerdict bytes count n
       unfolding refuse
-      read-points s l a = refused-read _ s (by-room _ (rw (le-ltb twice (h .count) once, lt-ltb (length points) (h .count) l))) a
+      read-twice l = by-room _ (rw (le-ltb 0 loose none, lt-ltb twice (h .count) l))
 
-      module _ (p : h .count ≤ length points) where
-        pub read-row : (s : SlipRead) → length row < h .r * h .count → s ≡ reading (Refused Length) [] → Read bytes points row s points row
+      module _ (once : h .count ≤ twice) where
+        pub read-points : count < h .count → Refused Length ≡ readVerdict bytes count n
         unfolding refuse
-        read-row s l a = refused-read _ s (by-room _ (rw (le-ltb twice (h .count) once, le-ltb (length points) (h .count) p, lt-ltb (length row) (h .r * h .count) l))) a
+        read-points l = by-room _ (rw (le-ltb 0 loose none, le-ltb twice (h .count) once, lt-ltb count (h .count) l))
 
-        pub read-fine : h .r * h .count ≤ length row → readVerdict bytes (length points) (length row) ≡ Fine
-        unfolding refuse
-        read-fine l = sym (by-room Fine (rw (le-ltb twice (h .count) once, le-ltb (length points) (h .count) p, le-ltb (length row) (h .r * h .count) l)))
+        module _ (p : h .count ≤ count) where
+          pub read-row : n < h .r * h .count → Refused Length ≡ readVerdict bytes count n
+          unfolding refuse
+          read-row l = by-room _ (rw (le-ltb 0 loose none, le-ltb twice (h .count) once, le-ltb count (h .count) p, lt-ltb n (h .r * h .count) l))
+
+          pub read-fine : h .r * h .count ≤ n → Fine ≡ readVerdict bytes count n
+          unfolding refuse
+          read-fine l = by-room Fine (rw (le-ltb 0 loose none, le-ltb twice (h .count) once, le-ltb count (h .count) p, le-ltb n (h .r * h .count) l))
+
+  -- what a slip that is taken has room for
+  module _ (e : readVerdict bytes count n ≡ Fine) where
+    pub read-checked : headVerdict bytes ≡ Fine
+    unfolding readVerdict
+    read-checked = then-fine _ _ e .0
+
+    pub read-edition : editionIn bytes ≡ 1
+    unfolding headVerdict
+    read-edition = begins bytes (then-fine (firstVerdict bytes) _ read-checked .0) .edition
+
+    pub read-clean : spareIn bytes + fillIn bytes ≡ 0
+    unfolding readVerdict
+    read-clean = omega (arith, ltb-false 0 (spareIn bytes + fillIn bytes) (refuse-fine _ _ _ (then-fine (headVerdict bytes) _ e .1) .0))
+
+    pub read-once : countIn bytes ≤ firstTwice (pointsIn bytes)
+    unfolding readVerdict
+    read-once = ltb-false _ _ (refuse-fine _ _ _ (refuse-fine _ _ _ (then-fine (headVerdict bytes) _ e .1) .1) .0)
+
+    pub read-room : (countIn bytes ≤ count) × (depthIn bytes * countIn bytes ≤ n)
+    unfolding readVerdict
+    read-room =
+        let r = refuse-fine _ _ _ (refuse-fine _ _ _ (refuse-fine _ _ _ (then-fine (headVerdict bytes) _ e .1) .1) .1) in
+        let o = or-false (ltb count (countIn bytes)) (ltb n (depthIn bytes * countIn bytes)) (r .0) in
+        (ltb-false _ _ (o .0), ltb-false _ _ (o .1))
+
+-- ---- the ways out of the call
+
+module _ (bytes points row : List ℕ) where
+  pub read-refused : (x : Refusal) (s : SlipRead) → readVerdict bytes (length points) (length row) ≡ Refused x → s ≡ reading (Refused x) [] → Read bytes points row s points row
+  unfolding reading kept
+  read-refused x s e a = record { answers = rw e a; leaves-points = rw e; leaves-row = rw e }
 
   pub read-done : readVerdict bytes (length points) (length row) ≡ Fine → (s : SlipRead) → s ≡ reading Fine bytes
       → (points′ row′ : List ℕ) → points′ ≡ front (pointsIn bytes) points → row′ ≡ front (rowIn bytes) row → Read bytes points row s points′ row′

@@ -1,14 +1,13 @@
 -- A slip that the reader takes: its code is inside the limits, and its row is one that the decoder takes.
-use Prim.Native.Nat.{ℕ, _+_, _*_, _^_, _<_, _≤_}
+use Prim.Native.Nat.{ℕ, _+_, _*_, _^_, _<_}
 use mathlib.Core.Path.{_≡_, refl, sym, _∙_}
 use mathlib.Core.List.{List}
 use native.Mathlib.Decide.{decLt}
 use native.Mathlib.Omega.{arith}
 use lib.ListN.{length, getD, List·getD-eq-default}
 use lib.Pow.{pow-pos}
-use borrow.Author.Tests.{ltb-false}
 use Rattle.defs.specs.Place.{Symbols, tab}
-use Rattle.defs.specs.Limits.{firstTwice, Inside}
+use Rattle.defs.specs.Limits.{Inside}
 use Rattle.defs.specs.Decode.{decodeVerdict}
 use Rattle.defs.specs.Slip.{allBits, numberAt, widthIn, depthIn, countIn, dimensionIn, symbolsIn, pointsIn, rowIn}
 use Rattle.defs.specs.Read.{readVerdict}
@@ -16,10 +15,9 @@ use Rattle.defs.specs.declared.Verdict.the-variants.{Fine}
 use Rattle.theory.proofs.Place.{length-tab, getD-tab}
 use Rattle.theory.proofs.Limits.{none-twice, limits-inside}
 use Rattle.theory.proofs.Checks.{decode-fine}
-use Rattle.theory.proofs.Verdict.{refuse-fine, then-fine}
 use Rattle.slip.proofs.Bits.{all-bits-are, number-below}
 use Rattle.slip.proofs.Front.{length-symbols}
-use Rattle.slip.proofs.Reader.{Sound, sound}
+use Rattle.slip.proofs.Reader.{Sound, sound, read-checked, read-once}
 
 module _ (bytes : List ℕ) where
   -- symbols of m bits are below 2 ^ m
@@ -38,7 +36,7 @@ module _ (bytes : List ℕ) where
   unfolding pointsIn
   points-low = symbols-in 0 (countIn bytes)
 
-  row-low : Symbols (widthIn bytes) (rowIn bytes)
+  pub row-low : Symbols (widthIn bytes) (rowIn bytes)
   unfolding rowIn
   row-low = symbols-in (countIn bytes) (depthIn bytes * countIn bytes)
 
@@ -53,12 +51,7 @@ module _ (bytes : List ℕ) where
   -- whatever room there was for its points and its row
   module _ (count n : ℕ) (fine : readVerdict bytes count n ≡ Fine) where
     pub read-sound : Sound bytes
-    unfolding readVerdict
-    read-sound = sound bytes (then-fine _ _ fine .0)
-
-    once : countIn bytes ≤ firstTwice (pointsIn bytes)
-    unfolding readVerdict
-    once = ltb-false _ _ (refuse-fine _ _ _ (then-fine _ _ fine .1) .0)
+    read-sound = sound bytes (read-checked bytes count n fine)
 
     pub inside : Inside (widthIn bytes) (depthIn bytes) (dimensionIn bytes) (pointsIn bytes)
     inside =
@@ -66,7 +59,7 @@ module _ (bytes : List ℕ) where
         (record {
           numbers = rw length-points (read-sound .numbers);
           symbols = points-low;
-          distinct = none-twice (pointsIn bytes) (rw length-points once);
+          distinct = none-twice (pointsIn bytes) (rw length-points (read-once bytes count n fine));
         })
 
     pub decodable : decodeVerdict (widthIn bytes) (depthIn bytes) (dimensionIn bytes) (pointsIn bytes) (rowIn bytes) (dimensionIn bytes) (countIn bytes) ≡ Fine

@@ -6,9 +6,9 @@ ghost use lib.ListN.{length, getD};
 ghost use Rattle.defs.specs.Field.{Width};
 ghost use Rattle.defs.specs.Place.{Symbols};
 ghost use Rattle.defs.specs.Limits.{longest, numbersVerdict, firstTwice, Inside};
-ghost use Rattle.defs.specs.Slip.{allBits, numberAt, widthOf, fieldCode, slipBits, slipSize, longestSlip, slipOf, widthIn, countIn, sizeIn, symbolsIn, pointsIn};
+ghost use Rattle.defs.specs.Slip.{allBits, numberAt, widthOf, fieldCode, slipBits, slipSize, longestSlip, slipOf, widthIn, depthIn, countIn, sizeIn, symbolsIn, pointsIn, spareIn, fillIn};
 ghost use Rattle.defs.specs.Write.{front, writeVerdict, Written};
-ghost use Rattle.defs.specs.Read.{firstVerdict, headVerdict, reading, Read};
+ghost use Rattle.defs.specs.Read.{firstVerdict, headVerdict, readVerdict, reading, Read};
 ghost use Rattle.slip.specs.Head.{headerBits, Fitting, Heads, Holds};
 use defs::Answer;
 use defs::LONGEST;
@@ -271,6 +271,45 @@ fn twice_in(bytes: &[u8], m: usize, count: usize) -> usize
     code::first_twice(&found[..count])
 }
 
+// What stands in the spare bit and in the fill behind the last symbol, added up. A slip has so many points and symbols in all.
+fn loose_bits(bytes: &[u8], m: usize, symbols: usize) -> usize
+    requires { ⌜ (headVerdict (now bytes) ≡ Verdict.Fine) × (m ≡ widthIn (now bytes)) × (symbols ≡ countIn (now bytes) + depthIn (now bytes) * countIn (now bytes)) ⌝ }
+    ensures { λ x. ⌜ x ≡ spareIn (now (bytes .entry)) + fillIn (now (bytes .entry)) ⌝ }
+{
+    let last = bytes.len() - 1;
+    let left = 8 * bytes.len() - (24 + m * symbols);
+    wide(bytes[2]) % 2 + wide(bytes[last]) % (1 << left)
+}
+
+// The checks of the reader. count and n are the lengths of its two buffers.
+fn check_read(bytes: &[u8], count: usize, n: usize) -> Verdict
+    ensures { λ v. ⌜ v ≡ readVerdict (now (bytes .entry)) count n ⌝ }
+{
+    let v = check_head(bytes);
+    if let Verdict::Refused(x) = v {
+        return Verdict::Refused(x);
+    }
+    let head = head_of(bytes);
+    let held = head.count;
+    let symbols = head.r * held;
+    // both are looked for first, so that the checks are one chain of comparisons
+    let loose = loose_bits(bytes, head.m, held + symbols);
+    let twice = twice_in(bytes, head.m, held);
+    if 0 < loose {
+        return Verdict::Refused(Refusal::SlipBits);
+    }
+    if twice < held {
+        return Verdict::Refused(Refusal::PointTwice(twice));
+    }
+    if count < held {
+        return Verdict::Refused(Refusal::Length);
+    }
+    if n < symbols {
+        return Verdict::Refused(Refusal::Length);
+    }
+    Verdict::Fine
+}
+
 fn refused(x: Refusal) -> SlipRead
     ensures { λ s. ⌜ s ≡ reading (Verdict.Refused x) [] ⌝ }
 {
@@ -287,22 +326,12 @@ fn refused(x: Refusal) -> SlipRead
 pub fn slip_read(bytes: &[u8], points: &mut [u8], row: &mut [u8]) -> SlipRead
     ensures { λ s. ⌜ Read (now (bytes .entry)) (now (points .entry)) (now (row .entry)) s (now (points .exit)) (now (row .exit)) ⌝ }
 {
-    let v = check_head(bytes);
+    let v = check_read(bytes, points.len(), row.len());
     if let Verdict::Refused(x) = v {
         return refused(x);
     }
     let head = head_of(bytes);
-    let twice = twice_in(bytes, head.m, head.count);
-    if twice < head.count {
-        return refused(Refusal::PointTwice(twice));
-    }
-    if points.len() < head.count {
-        return refused(Refusal::Length);
-    }
     let n = head.r * head.count;
-    if row.len() < n {
-        return refused(Refusal::Length);
-    }
     take_symbols(head.m, bytes, 0, head.count, points);
     take_symbols(head.m, bytes, head.count, n, row);
     SlipRead {

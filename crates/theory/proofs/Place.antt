@@ -3,7 +3,7 @@ use Prim.Native.Nat.{ℕ, zero, suc, _+_, _*_, _^_, _<_, _≤_, zero-le, suc-le-
 use mathlib.Core.Bool.{Bool, true, false, cond}
 use mathlib.Core.Path.{_≡_, refl, ap, sym, _∙_}
 use mathlib.Core.List.{List, [], _∷_, _++_}
-use native.Mathlib.Nat.{not-suc-le-zero, le-of-suc-le-suc, mul-zero, mul-suc}
+use native.Mathlib.Nat.{not-suc-le-zero, le-of-suc-le-suc, zero-add, suc-add, mul-zero, mul-suc}
 use native.Mathlib.Omega.{arith}
 use native.Mathlib.Decide.{decLt}
 use lib.ListN.{length, getD, take, replicate, List·getD-eq-default}
@@ -92,6 +92,11 @@ pub tab-snoc : (F : ℕ → ℕ) (n : ℕ) → tab F (suc n) ≡ tab F n ++ (F n
 unfolding tab
 tab-snoc F zero = refl
 tab-snoc F (suc n) = ap (λ (l : List ℕ). F zero ∷ l) (tab-snoc (λ i. F (suc i)) n)
+
+pub tab-append : (F : ℕ → ℕ) (a b : ℕ) → tab F (a + b) ≡ tab F a ++ tab (λ j. F (a + j)) b
+unfolding tab
+tab-append F zero b = simp zero-add
+tab-append F (suc a) b = rw (suc-add, tab-append (λ i. F (suc i)) a b) (simp suc-add)
 
 -- two functions that agree below n have one list
 pub tab-same : (F G : ℕ → ℕ) (n : ℕ) → ((i : ℕ) → i < n → F i ≡ G i) → tab F n ≡ tab G n

@@ -222,24 +222,29 @@ pub fn slip_write(code: Code, row: &[u8], bytes: &mut [u8]) -> Result<usize, Ref
 
 /// Reads the slip in `bytes`, which must end where the slip ends. The row is not decoded.
 ///
+/// One code and one row have one slip: bytes that are read are those that [`slip_write`] makes from what was read.
+///
 /// Writes the points and the row to the fronts of the two buffers; bytes behind them are kept.
 /// [`MAX_ROW`] bytes are enough for either.
 ///
 /// # Errors
 ///
-/// Tried in this order: fewer than 3 bytes 10, then 11, 1, 3, 4, shorter than its size 10, then 12, 6, 7.
+/// Tried in this order: fewer than 3 bytes 10, then 11, 1, 3, 4, shorter than its size 10, then 12, 13, 6, 7.
 /// Both buffers are then as they were.
 ///
 /// ```
 /// use plq::{slip_read, Header, Refusal, MAX_ROW};
 ///
-/// let slip = [0x10, 0x83, 0x06, 0x1b, 0x73, 0xb8];
+/// let mut slip = [0x10, 0x83, 0x06, 0x1b, 0x73, 0xb8];
 /// let (mut points, mut row) = ([0; MAX_ROW], [0; MAX_ROW]);
 /// let header = slip_read(&slip, &mut points, &mut row)?;
 /// assert_eq!(header, Header { m: 2, r: 2, k: 4, count: 4 });
 /// assert_eq!(points[..header.count], [0, 1, 2, 3]);
 /// assert_eq!(row[..header.r * header.count], [1, 3, 0, 3, 2, 3, 2, 0]);
 /// assert_eq!(slip_read(&slip[..5], &mut points, &mut row), Err(Refusal::SlipShort));
+///
+/// slip[2] |= 1; // the spare bit, last of the header
+/// assert_eq!(slip_read(&slip, &mut points, &mut row), Err(Refusal::SlipBits));
 /// # Ok::<(), plq::Refusal>(())
 /// ```
 pub fn slip_read(bytes: &[u8], points: &mut [u8], row: &mut [u8]) -> Result<Header, Refusal> {

@@ -50,9 +50,11 @@ pub enum Refusal {
     SlipEdition,
     /// 12: the slip is longer than its own size.
     SlipLong,
+    /// 13: a spare or fill bit of the slip is not 0.
+    SlipBits,
     /// A number that this crate does not know: the archive is newer than the crate.
     Unknown {
-        /// The number of the answer, above 12.
+        /// The number of the answer, above 13.
         number: u8,
         /// What the answer has for a detail.
         detail: usize,
@@ -77,6 +79,7 @@ impl Refusal {
             10 => Refusal::SlipShort,
             11 => Refusal::SlipEdition,
             12 => Refusal::SlipLong,
+            13 => Refusal::SlipBits,
             _ => Refusal::Unknown { number, detail },
         })
     }
@@ -96,6 +99,7 @@ impl Refusal {
             Refusal::SlipShort => 10,
             Refusal::SlipEdition => 11,
             Refusal::SlipLong => 12,
+            Refusal::SlipBits => 13,
             Refusal::Unknown { number, .. } => number,
         }
     }
@@ -127,6 +131,7 @@ impl fmt::Display for Refusal {
             Refusal::SlipShort => write!(out, "the slip is too short"),
             Refusal::SlipEdition => write!(out, "the slip is of another edition"),
             Refusal::SlipLong => write!(out, "the slip is too long"),
+            Refusal::SlipBits => write!(out, "a spare or fill bit of the slip is not 0"),
             Refusal::Unknown { number, detail } => {
                 write!(out, "the unknown number {number}, detail {detail}")
             }

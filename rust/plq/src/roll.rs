@@ -8,8 +8,9 @@ use std::iter::FusedIterator;
 /// The slips of a roll, slips saved one behind another, in their order.
 ///
 /// Each slip is a part of the roll. Where one is refused, the refusal is the last item, and [`Slips::rest`] is what stands
-/// from there on. An empty roll has no slips. Points and rows are not looked at: [`slip_read`](crate::slip_read) and
-/// [`line`](crate::line) take each slip found, and may refuse it for another reason.
+/// from there on. An empty roll has no slips. Spare bit, points, row and fill are not looked at:
+/// [`slip_read`](crate::slip_read) and [`line`](crate::line) take each slip found, and may refuse it for another reason,
+/// such as 13 or 6.
 ///
 /// # Errors
 ///

@@ -30,7 +30,7 @@ mod tests {
     use super::*;
 
     /// The refusals that this crate knows have the numbers from 1 to this one.
-    const KNOWN: u8 = 12;
+    const KNOWN: u8 = 13;
 
     #[test]
     fn every_number_comes_through_either_way() {
@@ -49,9 +49,9 @@ mod tests {
 
     #[test]
     fn an_unknown_number_keeps_its_detail_and_has_words() {
-        let refusal = done(13 | 258 << 8).unwrap_err();
-        assert_eq!((refusal.number(), refusal.detail()), (13, 258));
-        assert_eq!(refusal.to_string(), "the unknown number 13, detail 258");
+        let refusal = done(14 | 258 << 8).unwrap_err();
+        assert_eq!((refusal.number(), refusal.detail()), (14, 258));
+        assert_eq!(refusal.to_string(), "the unknown number 14, detail 258");
     }
 
     #[test]

@@ -95,6 +95,9 @@ fn the_reader_refuses_in_its_own_order() {
     assert_eq!(read(&[0x10, 0, 2]), Some(Refusal::MessageLength));
     assert_eq!(read(&[0x10, 0, 0]), Some(Refusal::SlipShort));
     assert_eq!(read(&[0x10, 0, 0, 0, 0]), Some(Refusal::SlipLong));
+    assert_eq!(read(&[0x10, 0, 1, 0, 0]), Some(Refusal::SlipLong));
+    // Points 1 and 1, buffers for one point, and the spare bit.
+    assert_eq!(read(&[0x10, 1, 1, 0x50]), Some(Refusal::SlipBits));
     // Points 1 and 1, and buffers for one point.
     assert_eq!(
         read(&[0x10, 1, 0, 0x50]),
@@ -102,6 +105,26 @@ fn the_reader_refuses_in_its_own_order() {
     );
     // Points 0 and 1.
     assert_eq!(read(&[0x10, 1, 0, 0x10]), Some(Refusal::Length));
+}
+
+/// The spare bit and each of the four fill bits of the smallest slip: the point 0 and the symbol 1 of 2 bits each.
+#[test]
+fn a_bit_that_holds_nothing_is_refused_and_buffers_are_kept() {
+    let good = [0x10, 0, 0, 0x10];
+    let changes = [(2, 1), (3, 8), (3, 4), (3, 2), (3, 1), (3, 15)];
+    let (mut points, mut row) = ([0xEE; 1], [0xEE; 1]);
+    for (place, bits) in changes {
+        let mut slip = good;
+        slip[place] |= bits;
+        let answer = slip_read(&slip, &mut points, &mut row);
+        assert_eq!(answer, Err(Refusal::SlipBits), "{slip:02x?}");
+        assert_eq!((points, row), ([0xEE; 1], [0xEE; 1]));
+        let mut text = [0xEE; 6];
+        assert_eq!(line(&slip, &mut text), Ok(5), "{slip:02x?}");
+        assert_eq!(&text, b"13 0\n\xEE");
+    }
+    assert!(slip_read(&good, &mut points, &mut row).is_ok());
+    assert_eq!((points, row), ([0], [1]));
 }
 
 #[test]

@@ -32,6 +32,20 @@ fn what_the_writer_made_is_found_again() {
         .eq([4, 259, 75, 10]));
 }
 
+/// The walk does not look at bits that hold nothing; the slips found are the roll's own bytes.
+#[test]
+fn spare_and_fill_bits_do_not_change_the_walk() {
+    let mut made = [slip(2, 1, 1), slip(4, 2, 3), slip(2, 2, 4)];
+    for slip in &mut made {
+        slip[2] |= 1; // the spare bit
+    }
+    made[0][3] |= 0x0F; // four bits of fill behind two symbols of 2 bits
+    made[1][7] |= 0x08; // the first of four behind nine symbols of 4 bits
+    let roll = made.concat();
+    let found: Result<Vec<&[u8]>, Refusal> = slips(&roll).collect();
+    assert_eq!(found.expect("no refusal"), made);
+}
+
 #[test]
 fn an_empty_roll_has_no_slips() {
     let mut none = slips(&[]);

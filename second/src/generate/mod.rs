@@ -18,8 +18,8 @@ pub enum Origin {
     Any,
     /// A fine decode call whose row is a sent one damaged to one more than the radius.
     JustBeyond,
-    /// A slip as it was written, then changed, cut or extended.
-    ChangedSlip,
+    /// A slip, and what was done to it since it was written.
+    Slip(slips::Change),
     /// A roll of so many slips, joined in this way.
     Roll(usize, rolls::Way),
 }
@@ -239,7 +239,7 @@ fn slip_read(random: &mut Random) -> Made {
     let call = Call::slip_read(drawn.bytes, random.bytes(points), random.bytes(row));
     Made {
         call,
-        origin: slip_origin(drawn.changed),
+        origin: Origin::Slip(drawn.change),
     }
 }
 
@@ -253,7 +253,7 @@ fn line_call(random: &mut Random) -> Made {
     };
     Made {
         call: Call::line(drawn.bytes, random.bytes(room)),
-        origin: slip_origin(drawn.changed),
+        origin: Origin::Slip(drawn.change),
     }
 }
 
@@ -262,13 +262,5 @@ fn roll_first(random: &mut Random) -> Made {
     Made {
         call: Call::roll_first(drawn.bytes),
         origin: Origin::Roll(drawn.slips, drawn.way),
-    }
-}
-
-fn slip_origin(changed: bool) -> Origin {
-    if changed {
-        Origin::ChangedSlip
-    } else {
-        Origin::Any
     }
 }

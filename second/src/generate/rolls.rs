@@ -1,8 +1,9 @@
-//! Rolls: slips joined as the office saves them, then cut, or with noise before, between or behind them.
+//! Rolls: slips joined as the office saves them, then cut, with noise before, between or behind them, or with bits changed
+//! that hold nothing.
 
 use super::slips;
 use crate::random::Random;
-use crate::reference::slip::pack;
+use crate::reference::slip::{pack, unpack};
 
 /// The most slips that a roll drawn here has.
 pub const MOST_SLIPS: usize = 40;
@@ -15,15 +16,17 @@ pub enum Way {
     NoiseBefore,
     NoiseBetween,
     NoiseBehind,
+    LooseBits,
 }
 
 impl Way {
-    pub const ALL: [Way; 5] = [
+    pub const ALL: [Way; 6] = [
         Way::Good,
         Way::Cut,
         Way::NoiseBefore,
         Way::NoiseBetween,
         Way::NoiseBehind,
+        Way::LooseBits,
     ];
 
     pub fn name(self) -> &'static str {
@@ -33,6 +36,7 @@ impl Way {
             Way::NoiseBefore => "with noise before it",
             Way::NoiseBetween => "with noise between its slips",
             Way::NoiseBehind => "with noise behind it",
+            Way::LooseBits => "with spare and fill bits changed",
         }
     }
 }
@@ -56,15 +60,32 @@ pub fn roll(random: &mut Random) -> Drawn {
     let way = drawn_way(random, count);
     match way {
         Way::Good => (),
-        Way::Cut => return cut(random, &slips),
+        Way::Cut => {
+            // a slip that is cut has bits that hold nothing, too
+            if random.percent(50) {
+                slips.iter_mut().for_each(|slip| loosen(random, slip));
+            }
+            return cut(random, &slips);
+        }
         Way::NoiseBefore => slips.insert(0, noise(random)),
         Way::NoiseBetween => slips.insert(random.between(1, count - 1), noise(random)),
         Way::NoiseBehind => slips.push(noise(random)),
+        Way::LooseBits => slips.iter_mut().for_each(|slip| loosen(random, slip)),
     }
     Drawn {
         bytes: slips.concat(),
         slips: count,
         way,
+    }
+}
+
+/// Changes some of the bits of a written slip that hold nothing.
+pub fn loosen(random: &mut Random, slip: &mut [u8]) {
+    let header = unpack(slip).expect("a written slip").header;
+    for bit in slips::loose_bits(header) {
+        if random.percent(50) {
+            slips::flip(slip, bit);
+        }
     }
 }
 

@@ -9,31 +9,86 @@ use crate::reference::slip::{pack, size, Slip};
 /// No slip drawn here is longer.
 pub const MOST_BYTES: usize = 400;
 
-/// Bytes for the reader, and whether they are a written slip that was then changed.
+/// Bytes for the reader, and how they came about.
 pub struct Drawn {
     pub bytes: Vec<u8>,
-    pub changed: bool,
+    pub change: Change,
+}
+
+/// What was done to a written slip.
+#[derive(Clone, Copy, Debug, PartialEq, Eq)]
+pub enum Change {
+    /// Nothing, or there was none.
+    None,
+    /// One bit that holds nothing was changed, and nothing else.
+    Loose(Loose),
+    /// Anything else.
+    Any,
+}
+
+/// A bit of a slip that holds nothing.
+#[derive(Clone, Copy, Debug, PartialEq, Eq)]
+pub enum Loose {
+    Spare,
+    Fill,
 }
 
 pub fn slip(random: &mut Random) -> Drawn {
     if random.percent(8) {
         return Drawn {
             bytes: unwritten(random),
-            changed: false,
+            change: Change::None,
         };
     }
     let slip = written(random);
     let mut bytes = pack(&slip);
     let before = bytes.clone();
-    if random.percent(74) {
-        for _ in 0..random.between(1, 2) {
-            change(random, &slip, &mut bytes);
+    let change = match random.below(100) {
+        0..66 => {
+            for _ in 0..random.between(1, 2) {
+                change(random, &slip, &mut bytes);
+            }
+            Change::Any
         }
-    }
+        66..78 => Change::Loose(loosen(random, slip.header, &mut bytes)),
+        _ => Change::None,
+    };
     Drawn {
-        changed: bytes != before,
+        change: if bytes == before {
+            Change::None
+        } else {
+            change
+        },
         bytes,
     }
+}
+
+/// Changes one bit of a slip that holds nothing: in most cases one of the fill, where there is any, else the spare bit.
+pub fn loosen(random: &mut Random, header: Header, bytes: &mut [u8]) -> Loose {
+    let loose = loose_bits(header);
+    let place = if random.percent(80) && loose.len() > 1 {
+        random.between(1, loose.len() - 1)
+    } else {
+        0
+    };
+    flip(bytes, loose[place]);
+    match place {
+        0 => Loose::Spare,
+        _ => Loose::Fill,
+    }
+}
+
+/// The bits that hold nothing: the last one of the header, and those behind the last symbol.
+pub fn loose_bits(header: Header) -> Vec<usize> {
+    let Header { m, r, count, .. } = header;
+    let end = 24 + (count + r * count) * m;
+    let fill = end..8 * size(m, r, count);
+    [23].into_iter().chain(fill).collect()
+}
+
+/// Changes a bit, counted from the front.
+pub fn flip(bytes: &mut [u8], bit: usize) {
+    bytes[bit / 8] ^= 0x80 >> (bit % 8);
 }
 
 /// What the writer would make a slip of.
@@ -105,10 +160,9 @@ pub fn set_bits(bytes: &mut [u8], at: usize, width: usize, number: usize) {
 
 /// Fills the bits behind the last symbol at random.
 fn set_fill(random: &mut Random, header: Header, bytes: &mut [u8]) {
-    let Header { m, r, count, .. } = header;
-    let end = 24 + (count + r * count) * m;
-    let whole = 8 * size(m, r, count);
-    set_bits(bytes, end, whole - end, random.below(1 << (whole - end)));
+    for bit in &loose_bits(header)[1..] {
+        set_bits(bytes, *bit, 1, random.below(2));
+    }
 }
 
 fn change_symbol(random: &mut Random, header: Header, bytes: &mut [u8]) {

@@ -6,7 +6,7 @@ use super::refusal::Refusal;
 use super::slip::unpack;
 
 /// The numbers that a line can begin with: done, and every refusal of the reader and the decoder.
-pub const NUMBERS: [u8; 9] = [0, 1, 3, 4, 6, 9, 10, 11, 12];
+pub const NUMBERS: [u8; 10] = [0, 1, 3, 4, 6, 9, 10, 11, 12, 13];
 
 /// The number that a line begins with.
 pub fn number(text: &[u8]) -> usize {
@@ -88,6 +88,8 @@ mod tests {
         assert_eq!(text(&[0x20, 0, 0]), "11 0\n");
         assert_eq!(text(&[0x1c, 0, 0]), "1 0\n");
         assert_eq!(text(&[0x10, 0, 0, 0, 0]), "12 0\n");
+        // Points 1 and 1 leave no fill; the spare bit comes first.
+        assert_eq!(text(&[0x10, 1, 1, 0b0101_0000]), "13 0\n");
         // Points 1 and 1: the second equals the first.
         assert_eq!(text(&[0x10, 1, 0, 0b0101_0000]), "6 1\n");
     }

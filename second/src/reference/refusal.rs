@@ -26,6 +26,8 @@ pub enum Refusal {
     Edition,
     /// The slip goes on behind its size.
     SlipLong,
+    /// A bit of the slip that holds nothing is not 0.
+    SlipBits,
 }
 
 impl Refusal {
@@ -43,6 +45,7 @@ impl Refusal {
             Refusal::SlipShort => 10,
             Refusal::Edition => 11,
             Refusal::SlipLong => 12,
+            Refusal::SlipBits => 13,
         }
     }
 

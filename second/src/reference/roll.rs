@@ -71,7 +71,7 @@ mod tests {
     use crate::random::Random;
     use crate::reference::slip;
 
-    /// The shortest front that the slip reader does not call short decides, whatever it says of its points.
+    /// The shortest front that the slip reader does not call short decides, whatever it says of its loose bits and points.
     fn by_the_reader(roll: &[u8]) -> Result<usize, Refusal> {
         if roll.is_empty() {
             return Ok(0);
@@ -79,7 +79,7 @@ mod tests {
         for size in 0..=roll.len().min(259) {
             match slip::unpack(&roll[..size]) {
                 Err(Refusal::SlipShort) => (),
-                Ok(_) | Err(Refusal::PointTwice(_)) => return Ok(size),
+                Ok(_) | Err(Refusal::SlipBits | Refusal::PointTwice(_)) => return Ok(size),
                 Err(refusal) => return Err(refusal),
             }
         }
@@ -102,6 +102,19 @@ mod tests {
             let slips = rolls::written(&mut random);
             let sizes = slips.iter().map(Vec::len).collect();
             assert_eq!(walk(&slips.concat()), (sizes, None));
+        }
+    }
+
+    #[test]
+    fn loose_bits_do_not_change_the_walk() {
+        let mut random = Random::new(12);
+        for _ in 0..500 {
+            let mut slips = rolls::written(&mut random);
+            let before = walk(&slips.concat());
+            for slip in &mut slips {
+                rolls::loosen(&mut random, slip);
+            }
+            assert_eq!(walk(&slips.concat()), before);
         }
     }
 }

@@ -85,6 +85,8 @@ impl Reader {
 }
 
 /// The slip in `bytes`, refused as the reader refuses it, but for its buffers.
+///
+/// Which bits hold nothing is not worked out: what was read is packed again, and other bytes than these are refused.
 pub fn unpack(bytes: &[u8]) -> Result<Slip, Refusal> {
     if bytes.len() < HEADER_BYTES {
         return Err(Refusal::SlipShort);
@@ -99,12 +101,16 @@ pub fn unpack(bytes: &[u8]) -> Result<Slip, Refusal> {
     }
     let points = reader.symbols(count, m);
     let row = reader.symbols(r * count, m);
-    check_distinct(&points)?;
-    Ok(Slip {
+    let slip = Slip {
         header,
         points,
         row,
-    })
+    };
+    if pack(&slip) != bytes {
+        return Err(Refusal::SlipBits);
+    }
+    check_distinct(&slip.points)?;
+    Ok(slip)
 }
 
 /// The first 24 bits: 11, 1, 3 and 4 are tried in that order.
@@ -116,7 +122,7 @@ fn unpack_header(reader: &mut Reader) -> Result<Header, Refusal> {
     let r = reader.take(3) + 1;
     let count = reader.take(7) + 1;
     let k = reader.take(7) + 1;
-    let _spare = reader.take(1);
+    reader.take(1); // the spare bit
     let field = Field::of(m).ok_or(Refusal::Field)?;
     if count > field.size() || r * count > LONGEST_ROW {
         return Err(Refusal::Points);
@@ -166,6 +172,8 @@ pub fn read(bytes: &[u8], points: &mut [u8], row: &mut [u8]) -> Result<Header, R
 #[cfg(test)]
 mod tests {
     use super::*;
+    use crate::generate::slips;
+    use crate::random::Random;
 
     #[test]
     fn the_six_bytes_hold_the_row_worked_by_hand() {
@@ -192,10 +200,29 @@ mod tests {
     }
 
     #[test]
-    fn spare_bit_and_fill_are_not_looked_at() {
-        let bytes = [0x10, 0x00, 0x00, 0x10];
-        let slip = unpack(&bytes).unwrap();
+    fn spare_bit_and_fill_must_be_0() {
+        let slip = unpack(&[0x10, 0x00, 0x00, 0x10]).unwrap();
         assert_eq!((&slip.points[..], &slip.row[..]), (&[0][..], &[1][..]));
-        assert_eq!(unpack(&[0x10, 0x00, 0x01, 0x1f]), Ok(slip));
+        for (spare, fill) in [(1, 0), (0, 1), (0, 2), (0, 4), (0, 8), (1, 15)] {
+            let bytes = [0x10, 0x00, spare, 0x10 | fill];
+            assert_eq!(unpack(&bytes), Err(Refusal::SlipBits), "{bytes:02x?}");
+        }
+    }
+
+    /// Bits of points and row are never called loose, and the bits that are drawn as loose ones always are.
+    #[test]
+    fn loose_bits_are_those_that_hold_nothing() {
+        let mut random = Random::new(10);
+        for _ in 0..300 {
+            let slip = slips::written(&mut random);
+            let good = pack(&slip);
+            let loose = slips::loose_bits(slip.header);
+            for bit in 23..8 * good.len() {
+                let mut bytes = good.clone();
+                slips::flip(&mut bytes, bit);
+                let refused = unpack(&bytes) == Err(Refusal::SlipBits);
+                assert_eq!(refused, loose.contains(&bit), "bit {bit} of {good:02x?}");
+            }
+        }
     }
 }

@@ -10,6 +10,8 @@ mod crash;
 mod run;
 #[cfg(archive)]
 mod tally;
+#[cfg(archive)]
+mod written;
 
 use std::process::ExitCode;
 

@@ -2,10 +2,10 @@
 
 use crate::crash;
 use crate::tally::Tally;
+use crate::written::Written;
 use crate::Verdict;
 use second::archive::{Archive, Observed};
 use second::call::{hex, Call, Kind, Outcome};
-use second::generate::rolls::MOST_SLIPS;
 use second::reference::roll;
 use second::{archive, frame, generate, reference, worked};
 
@@ -27,13 +27,13 @@ pub fn compare(count: u64, seed: u64) -> Verdict {
             eprintln!("compare: this was case {index} of seed {seed}");
             return Verdict::Differ;
         }
-        if !walk_agrees(&made.call) || !written.add(&made.call, &outcome) {
+        if !walk_agrees(&made.call) || !written.follow(&mut archive, &made.call, &outcome) {
             eprintln!("compare: this was case {index} of seed {seed}");
             return Verdict::Differ;
         }
         tally.count(&made, &outcome);
     }
-    tally.written_rolls = written.rolls;
+    tally.written = written;
     print!("{tally}");
     println!("compare: {count} cases agree");
     let missing = tally.missing();
@@ -45,37 +45,6 @@ pub fn compare(count: u64, seed: u64) -> Verdict {
         println!("compare: {complaint}");
     }
     Verdict::TooFew
-}
-
-/// A roll of slips that the archive wrote: what comes out of its writer is joined until there are enough.
-#[derive(Default)]
-struct Written {
-    slips: Vec<Vec<u8>>,
-    rolls: u64,
-}
-
-impl Written {
-    /// Adds the slip of a done write call. Says false where a roll is not taken apart into the slips written.
-    fn add(&mut self, call: &Call, outcome: &Outcome) -> bool {
-        if call.kind != Kind::SlipWrite || outcome.answer.number != 0 {
-            return true;
-        }
-        self.slips
-            .push(outcome.buffers[0][..outcome.answer.detail].to_vec());
-        if self.slips.len() <= (self.rolls as usize) % MOST_SLIPS {
-            return true;
-        }
-        self.rolls += 1;
-        let slips = std::mem::take(&mut self.slips);
-        let sizes: Vec<usize> = slips.iter().map(Vec::len).collect();
-        let same = walk_of_archive(&slips.concat()) == (sizes, 0);
-        if !same {
-            eprintln!(
-                "compare: a roll of slips that the archive wrote is not taken apart into them"
-            );
-        }
-        same
-    }
 }
 
 /// Whether the walk over a roll, slip after slip to its end, is the one expected. True for every other call.
@@ -96,7 +65,7 @@ fn walk_agrees(call: &Call) -> bool {
 }
 
 /// The sizes of the slips that the archive finds, and the number that ends its walk.
-fn walk_of_archive(roll: &[u8]) -> (Vec<usize>, u8) {
+pub fn walk_of_archive(roll: &[u8]) -> (Vec<usize>, u8) {
     let (mut sizes, mut rest) = (Vec::new(), roll);
     loop {
         let answer = archive::roll_first(rest);
@@ -126,7 +95,7 @@ pub fn replay(bytes: &[u8]) -> Verdict {
 }
 
 /// Whether the archive's outcome is the one expected. If not, both are printed with the way to run the case again.
-fn agrees(archive: &mut Archive, call: &Call, expected: &Outcome) -> bool {
+pub fn agrees(archive: &mut Archive, call: &Call, expected: &Outcome) -> bool {
     let mut bytes = Vec::new();
     frame::write(call, &mut bytes);
     let observed = crash::during(&bytes, || archive.run(call));

@@ -1,7 +1,9 @@
 //! What a run has met, and whether that is enough.
 
+use crate::written::Written;
 use second::call::{Call, Kind, Outcome};
 use second::generate::rolls::{Way, MOST_SLIPS};
+use second::generate::slips::{Change, Loose};
 use second::generate::{Made, Origin};
 use second::reference::code::{DEEPEST, LONGEST_ROW};
 use second::reference::line;
@@ -19,7 +21,13 @@ const LEAST_ROLLS: u64 = 20_000;
 const LEAST_OF_A_WAY: u64 = 1000;
 const LEAST_WRITTEN_ROLLS: u64 = 100;
 
-const NUMBERS: usize = 13;
+/// In so many slips of either writer one bit is changed that holds nothing, and so many have the spare bit or a fill bit.
+const LEAST_LOOSENED: u64 = 5000;
+const LEAST_OF_A_LOOSE_BIT: u64 = 1000;
+/// So many slips are read and written again.
+const LEAST_AGAIN: u64 = 5000;
+
+const NUMBERS: usize = 14;
 
 pub struct Tally {
     cases: u64,
@@ -28,6 +36,9 @@ pub struct Tally {
     /// How often the line began with each number.
     printed: [u64; NUMBERS],
     changed_lines: u64,
+    /// Slips of the second writer with one bit changed that holds nothing, read or given to line.
+    spare: u64,
+    fill: u64,
     accepted_at_radius: u64,
     refused_just_beyond: u64,
     accepted_just_beyond: u64,
@@ -37,8 +48,8 @@ pub struct Tally {
     /// Rolls, by the way they were made and by their slips.
     ways: [u64; Way::ALL.len()],
     slips: [u64; MOST_SLIPS + 1],
-    /// Rolls of slips that the archive wrote.
-    pub written_rolls: u64,
+    /// What was tried with slips that the archive wrote or read.
+    pub written: Written,
 }
 
 impl Default for Tally {
@@ -48,6 +59,8 @@ impl Default for Tally {
             answers: Default::default(),
             printed: Default::default(),
             changed_lines: 0,
+            spare: 0,
+            fill: 0,
             accepted_at_radius: 0,
             refused_just_beyond: 0,
             accepted_just_beyond: 0,
@@ -55,7 +68,7 @@ impl Default for Tally {
             lengths: Vec::new(),
             ways: Default::default(),
             slips: [0; MOST_SLIPS + 1],
-            written_rolls: 0,
+            written: Written::default(),
         }
     }
 }
@@ -66,6 +79,11 @@ impl Tally {
         self.cases += 1;
         let number = usize::from(outcome.answer.number);
         self.answers[call.kind as usize - 1][number] += 1;
+        match made.origin {
+            Origin::Slip(Change::Loose(Loose::Spare)) => self.spare += 1,
+            Origin::Slip(Change::Loose(Loose::Fill)) => self.fill += 1,
+            _ => (),
+        }
         match call.kind {
             Kind::Decode if matches!(number, 0 | 9) => self.count_decode(made, outcome),
             Kind::Line => self.count_line(made, outcome),
@@ -96,7 +114,7 @@ impl Tally {
     }
 
     fn count_line(&mut self, made: &Made, outcome: &Outcome) {
-        if made.origin == Origin::ChangedSlip {
+        if matches!(made.origin, Origin::Slip(Change::Loose(_) | Change::Any)) {
             self.changed_lines += 1;
         }
         if outcome.answer.number == 0 {
@@ -166,7 +184,20 @@ impl Tally {
             ask(*count, LEAST_OF_A_NUMBER, what);
         }
         let written = "a roll of slips that the archive wrote".into();
-        ask(self.written_rolls, LEAST_WRITTEN_ROLLS, written);
+        ask(self.written.rolls, LEAST_WRITTEN_ROLLS, written);
+        for (writer, count) in [
+            ("the second program", self.spare + self.fill),
+            ("the archive", self.written.loosened),
+        ] {
+            let what = format!("a slip of {writer} with one spare or fill bit changed");
+            ask(count, LEAST_LOOSENED, what);
+        }
+        for (bit, count) in [("spare", self.spare), ("fill", self.fill)] {
+            let what = format!("a {bit} bit changed alone");
+            ask(count, LEAST_OF_A_LOOSE_BIT, what);
+        }
+        let again = "a slip read and written again".into();
+        ask(self.written.again, LEAST_AGAIN, again);
         let lengths = self.lengths_met() as u64;
         ask(
             lengths,
@@ -219,7 +250,17 @@ impl fmt::Display for Tally {
         writeln!(
             out,
             " {} more of slips that the archive wrote",
-            self.written_rolls
+            self.written.rolls
+        )?;
+        writeln!(
+            out,
+            "slips with one bit changed that holds nothing: {} spare, {} fill; {} more of slips that the archive wrote",
+            self.spare, self.fill, self.written.loosened
+        )?;
+        writeln!(
+            out,
+            "slips that the archive read and wrote again: {}",
+            self.written.again
         )
     }
 }
