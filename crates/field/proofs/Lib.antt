@@ -1,6 +1,5 @@
 -- Why the functions are right.
 pub mod Rules
-pub mod Pascal
 pub mod Elements
 pub mod Twice
 pub mod Doubling

@@ -1,10 +1,9 @@
 -- What the functions answer: elements, inverses, logarithms, and tables to look up in.
-use Prim.Native.Nat.{ℕ, _+_, _*_, _-_, _%_, _^_, _<_, _≤_}
+use Prim.Native.Nat.{ℕ, _+_, _*_, _-_, _^_, _<_, _≤_}
 use mathlib.Core.Path.{_≡_}
 use mathlib.Core.List.{List}
 use lib.ListN.{length, getD}
-use Rattle.defs.specs.Field.{add, mul, pow, binom}
-use Rattle.defs.specs.Limits.{deepest, longest}
+use Rattle.defs.specs.Field.{add, mul, pow}
 
 -- r is v, and an element of the field
 pub record Element (m v r : ℕ) : Type 0 where
@@ -27,11 +26,6 @@ pub record Powers (m : ℕ) (table : List ℕ) : Type 0 where
 pub record Logarithms (m : ℕ) (table : List ℕ) : Type 0 where
   pub size : length table ≡ 2 ^ m
   pub at : (a : ℕ) → a < 2 ^ m → (a ≡ 0 → ⊥) → Logarithm m a (getD table a 0)
-
--- whether C(a, b) is odd, for a below the longest row and b below the deepest chunk
-pub record Parities (table : List ℕ) : Type 0 where
-  pub size : length table ≡ longest * deepest
-  pub at : (a b : ℕ) → a < longest → b < deepest → getD table (a * deepest + b) 0 ≡ binom a b % 2
 
 -- the multiples of c
 pub record Products (m c : ℕ) (row : List ℕ) : Type 0 where

@@ -1,6 +1,8 @@
-// Arithmetic of the fields with 4, 16 and 256 elements, and the parities of binomials as a table.
+// Arithmetic of the fields with 4, 16 and 256 elements.
+mod binomial;
 mod tables;
 
+pub use binomial::next_odd;
 use tables::ELEMENTS;
 use tables::ELEMENTS4;
 use tables::ELEMENTS16;
@@ -10,8 +12,6 @@ use tables::EXP16;
 use tables::LOG;
 use tables::LOG4;
 use tables::LOG16;
-use tables::PARITIES;
-use tables::PARITY;
 pub use tables::POWERS;
 use tables::POWERS4;
 use tables::POWERS16;
@@ -19,7 +19,7 @@ ghost use mathlib.Core.Path.{_≡_};
 ghost use Prim.Native.Nat.{_+_, _*_, _-_, _^_, _<_, _≤_};
 ghost use Rattle.defs.specs.Field.{Width, times2, mul, pow};
 ghost use Rattle.field.specs.Arithmetic.{Element, Inverse, Logarithm, Powers, Logarithms};
-ghost use Rattle.field.specs.Arithmetic.{Parities, Products, Doubled};
+ghost use Rattle.field.specs.Arithmetic.{Products, Doubled};
 ghost use lib.ListN.{length};
 
 // The tables, each with its rule, so that whoever looks one up cites the rule.
@@ -57,13 +57,6 @@ fn logarithms256() -> [u8; ELEMENTS]
     ensures { λ r. ⌜ Logarithms 8 r ⌝ }
 {
     LOG
-}
-
-// For an inner loop to look up in: a const is built anew at every read.
-pub fn parities() -> [u8; PARITIES]
-    ensures { λ r. ⌜ Parities r ⌝ }
-{
-    PARITY
 }
 
 // The power i of 2.

@@ -1,25 +1,23 @@
--- One Hasse coefficient, added up from the lowest power, with powers of the point by their logarithms.
-use Prim.Native.Nat.{ℕ, zero, suc, _+_, _*_, _-_, _/_, _%_, _^_, _<_, _≤_}
+-- One Hasse coefficient, added up from the lowest power, over the terms that count.
+use Prim.Native.Nat.{ℕ, zero, suc, _+_, _*_, _-_, _%_, _^_, _<_, _≤_}
 use mathlib.Core.Path.{_≡_, refl, ap, ap₂, sym, _∙_}
 use mathlib.Core.List.{List, [], _∷_}
-use native.Mathlib.Nat.{add-sub-of-le, add-sub-cancel-left, lt-of-le-of-lt, lt-of-lt-of-le, mod-lt, div-add-mod', div-lt-iff-lt-mul}
+use native.Mathlib.Nat.{add-sub-of-le, add-sub-cancel-left, zero-mul, one-mul, mul-zero}
 use native.Mathlib.Omega.{arith}
 use lib.Bits.{bitXor}
-use lib.ListN.{length, getD}
-use lib.Pow.{pow-pos}
-use Rattle.defs.specs.Field.{Width, add, mul, pow, binom}
+use lib.ListN.{length, getD, List·getD-eq-default}
+use Rattle.defs.specs.Field.{add, mul, pow, binom}
 use Rattle.defs.specs.Place.{Symbols}
-use Rattle.defs.specs.Limits.{deepest}
 use Rattle.defs.specs.Row.{sum, sumFrom, coefficient}
-use Rattle.theory.proofs.Field.{bit, add-0, 0-mul, mul-comm, mul-lt, pow-lt, pow-add, one-mul-of-lt}
-use Rattle.theory.proofs.Sum.{sum-ext, sum-last}
+use Rattle.theory.proofs.Field.{add-0, 0-mul}
+use Rattle.theory.proofs.Sum.{sum-ext, sum-last, sum-cut}
+use Rattle.theory.proofs.Binomial.{self-odd}
 use Rattle.theory.specs.Poly.{h}
 use Rattle.theory.proofs.Formula.{coefficient-h}
-use Rattle.theory.proofs.Generator.{one-lt, order}
-use Rattle.theory.proofs.Width.{field-top}
-use Rattle.rows.specs.Tables.{places}
+use Rattle.field.specs.Binomial.{NextOdd}
+use Rattle.rows.specs.Tables.{places, Exponent}
 use Rattle.code.specs.Chunk.{chunkOf}
-use Rattle.rows.specs.Chunk.{Coefficient, Evaluable}
+use Rattle.rows.specs.Chunk.{Terms}
 use Rattle.code.proofs.Chunks.{chunk-same}
 use Rattle.rows.proofs.Lookup.{reach, look-up}
 
@@ -31,96 +29,54 @@ coefficient-is : (m P : ℕ) (f : List ℕ) (j : ℕ) → sum (length f - j) (te
 unfolding coefficient sumFrom
 coefficient-is m P f j = sum-ext (length f - j) _ _ (λ x l. rw (add-sub-cancel-left j x))
 
-masked : (n y : ℕ) → n % 2 * y ≤ y
-masked n y = bit (λ p. p * y ≤ y) (omega arith) (omega arith) n
-
--- the terms below the power i are added, and e is the logarithm of the point's power
-pub record Added (m P : ℕ) (f : List ℕ) (j i e total : ℕ) : Type 0 where
+-- the terms below the power i are added, and the next one counts
+pub record Added (m P : ℕ) (f : List ℕ) (j i total : ℕ) : Type 0 where
   pub low : j ≤ i
-  pub high : i - j ≤ length f - j
-  pub exponent : e ≤ 2 ^ m - 1
-  pub power : pow m 2 e ≡ pow m P (i - j)
+  pub odd : binom i j % 2 ≡ 1
   pub is : total ≡ sum (i - j) (term m f P j)
 
--- e′ is another logarithm of the same power as e + step
-pub record Stepped (m e step e′ : ℕ) : Type 0 where
-  pub below : e′ ≤ 2 ^ m - 1
-  pub same : pow m 2 e′ ≡ pow m 2 (e + step)
+module _ (m P j : ℕ) (f symbols powers : List ℕ) (t : Terms m f symbols powers) where
+  pub added-first : Added m P f j j 0
+  unfolding sum
+  added-first = let e : j - j ≡ 0 = omega arith in record { low = omega arith; odd = self-odd j; is = rw e }
 
-module _ (m : ℕ) (w : Width m) (e step : ℕ) (b : e ≤ 2 ^ m - 1) (b′ : step < 2 ^ m - 1) where
-  -- the order of 2 is 2 ^ m - 1, so 2 ^ m counts for 1
-  brought-down : (q x : ℕ) → q < 2 → x < 2 ^ m → q * 2 ^ m + x ≡ e + step → Stepped m e step (x + q)
-  brought-down zero x l h s = record { below = omega arith; same = ap (pow m 2) (omega arith) }
-  brought-down (suc zero) x l h s = record {
-    below = omega arith;
-    same =
-        let s′ : 2 ^ m - 1 + (x + 1) ≡ e + step = omega arith in
-        sym (one-mul-of-lt m (pow m 2 (x + 1)) (pow-lt m 2 (x + 1) (one-lt m w))) ∙ ap (λ (y : ℕ). mul m y (pow m 2 (x + 1))) (sym (order m w))
-        ∙ sym (pow-add m 2 (2 ^ m - 1) (x + 1) (one-lt m w)) ∙ ap (pow m 2) s′;
-  }
-  brought-down (suc (suc q)) x l h s = absurd (omega arith)
+  module _ (i e total : ℕ) (l : i < length f) (a : Added m P f j i total) (x : Exponent m P (i - j) e) where
+    at-most : e ≤ 2 ^ m - 1
+    at-most = omega (arith, x .below)
 
-  pub stepped : (size : ℕ) → size ≡ 2 ^ m → Stepped m e step ((e + step) % size + (e + step) / size)
-  stepped size s =
-      let low : (e + step) / 2 ^ m < 2 = div-lt-iff-lt-mul {k = 2 ^ m} {x = e + step} {y = 2} (pow-pos m) .1 (omega arith) in
-      rw s (brought-down ((e + step) / 2 ^ m) ((e + step) % 2 ^ m) low (mod-lt (e + step) (pow-pos m)) (div-add-mod' (e + step) (2 ^ m)))
-
-module _ (m P j step : ℕ) (f symbols powers parities : List ℕ) (t : Coefficient m P j step f symbols powers parities) where
-  pub added-first : Added m P f j j 0 0
-  unfolding sum pow
-  added-first =
-      let e : j - j ≡ 0 = omega arith in
-      record { low = omega arith; high = omega arith; exponent = omega (arith, t .logarithm .below); power = rw e; is = rw e }
-
-  module _ (i e total : ℕ) (a : Added m P f j i e total) (l : i < length f) where
     pub place-fits : getD symbols i 0 + e < places
-    place-fits = reach m (t .width) (getD f i 0) (getD symbols i 0) e (t .symbols-are .at i l) (a .exponent)
+    place-fits = reach m (t .width) (getD f i 0) (getD symbols i 0) e (t .symbols-are .at i l) at-most
 
     product : getD powers (getD symbols i 0 + e) 0 ≡ mul m (getD f i 0) (pow m P (i - j))
-    product = look-up m (t .width) (getD f i 0) (getD symbols i 0) e (t .symbols-are .at i l) (a .exponent) powers (t .powers-are) ∙ ap (mul m (getD f i 0)) (a .power)
+    product = look-up m (t .width) (getD f i 0) (getD symbols i 0) e (t .symbols-are .at i l) at-most powers (t .powers-are) ∙ ap (mul m (getD f i 0)) (x .power)
 
-    parity : getD parities (i * deepest + j) 0 ≡ binom i j % 2
-    parity = t .parities-are .at i j (omega (arith, t .short)) (t .depth)
+    term-is : getD powers (getD symbols i 0 + e) 0 ≡ term m f P j (i - j)
+    term-is = let s : j + (i - j) ≡ i = add-sub-of-le (a .low) in rw (s, a .odd, product) (sym (one-mul _))
 
-    pub term-is : getD parities (i * deepest + j) 0 * getD powers (getD symbols i 0 + e) 0 ≡ term m f P j (i - j)
-    term-is = let s : j + (i - j) ≡ i = add-sub-of-le (a .low) in rw (s, parity, product)
+    -- the terms between have even binomials
+    passed-over : (n : ℕ) → NextOdd i j n → (y : ℕ) → suc (i - j) ≤ y → y < n - j → term m f P j y ≡ 0
+    passed-over n o y h b = rw (o .even (j + y) (omega (arith, a .low)) (omega arith)) (zero-mul _)
 
-    pub term-byte : getD parities (i * deepest + j) 0 * getD powers (getD symbols i 0 + e) 0 < 256
-    term-byte = rw (parity, product) (lt-of-le-of-lt (masked (binom i j) _) (lt-of-lt-of-le (mul-lt m (getD f i 0) _) (field-top m (t .width))))
+    pub added-more : (n : ℕ) → NextOdd i j n → Added m P f j n (bitXor total (getD powers (getD symbols i 0 + e) 0))
+    unfolding add
+    added-more n o = record {
+      low = omega (arith, a .low, o .above);
+      odd = o .odd;
+      is =
+          ap₂ bitXor (a .is) term-is ∙ sym (sum-last (i - j) (term m f P j))
+          ∙ sym (sum-cut (suc (i - j)) (n - j) (term m f P j) (passed-over n o) (omega (arith, a .low, o .above)));
+    }
 
-    pub added-more : (e′ : ℕ) → Stepped m e step e′
-        → Added m P f j (i + 1) e′ (bitXor total (getD parities (i * deepest + j) 0 * getD powers (getD symbols i 0 + e) 0))
-    unfolding add pow
-    added-more e′ s =
-        let n : i + 1 - j ≡ suc (i - j) = omega (arith, a .low) in
-        record {
-          low = omega (arith, a .low);
-          high = omega (arith, a .low);
-          exponent = s .below;
-          power =
-              s .same ∙ pow-add m 2 e step (one-lt m (t .width)) ∙ ap₂ (mul m) (a .power) (t .logarithm .power) ∙ mul-comm m (pow m P (i - j)) P
-              ∙ ap (pow m P) (sym n);
-          is = ap₂ bitXor (a .is) term-is ∙ sym (sum-last (i - j) (term m f P j)) ∙ ap (λ (x : ℕ). sum x (term m f P j)) (sym n);
-        }
+  pub added-last : (i total : ℕ) → Added m P f j i total → length f ≤ i → total ≡ coefficient m f P j
+  added-last i total a l = a .is ∙ sum-cut (length f - j) (i - j) (term m f P j) behind (omega arith) ∙ coefficient-is m P f j
+    where
+      behind : (x : ℕ) → length f - j ≤ x → x < i - j → term m f P j x ≡ 0
+      behind x h b = rw (List·getD-eq-default f 0 {n = j + x} (omega arith), 0-mul) (mul-zero _)
 
-  pub added-last : (i e total : ℕ) → Added m P f j i e total → length f ≤ i → total ≡ coefficient m f P j
-  added-last i e total a l =
-      let n : i - j ≡ length f - j = omega (arith, a .high) in
-      a .is ∙ ap (λ (x : ℕ). sum x (term m f P j)) n ∙ coefficient-is m P f j
-
--- what is known of a chunk serves each of its coefficients, where the point is not 0
-pub one-coefficient : {m r P j : ℕ} {f symbols logs powers parities : List ℕ} → Evaluable m r P f symbols logs powers parities → (P ≡ 0 → ⊥) → j < r
-    → Coefficient m P j (getD logs P 0) f symbols powers parities
-one-coefficient {m} {r} {P} v n l = record {
-  width = v .width;
-  depth = omega (arith, v .depth);
-  logarithm = v .logs-are .at P (v .point) .some n;
-  message = v .message;
-  short = v .short;
-  symbols-are = v .symbols-are;
-  powers-are = v .powers-are;
-  parities-are = v .parities-are;
-}
+-- over 0 every binomial is odd
+pub next-all : (i : ℕ) → NextOdd i 0 (i + 1)
+unfolding binom
+next-all i = record { above = omega arith; odd = refl; even = λ c l h. absurd (omega arith) }
 
 -- ---- at the point 0
 

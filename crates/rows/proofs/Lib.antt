@@ -2,6 +2,7 @@
 pub mod Chunks
 pub mod Lookup
 pub mod Hasse
+pub mod PointPowers
 pub mod Writing
 pub mod Measure
 pub mod Outcome

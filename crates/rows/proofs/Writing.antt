@@ -16,7 +16,6 @@ use Rattle.theory.specs.Limits.{Numbers}
 use Rattle.theory.proofs.Place.{tab-same}
 use Rattle.theory.proofs.Row.{length-row, row-step}
 use Rattle.theory.proofs.Fill.{length-filled}
-use Rattle.field.specs.Arithmetic.{Parities}
 use Rattle.code.specs.Checked.{pointsOf}
 use Rattle.code.proofs.Known.{code-numbers, code-symbols, code-point}
 use Rattle.rows.specs.Tables.{PowersOf, LogsFor, LogsOf}
@@ -84,18 +83,14 @@ module _ (c : Code) (f row : List ℕ) (w : Writable c f row) where
   pub short : length f ≤ longest
   short = omega (arith, w .message .size, numbers .k-top, numbers .row-top)
 
-  pub evaluable : (symbols logs powers parities : List ℕ) → LogsOf (c .m) f symbols → LogsFor (c .m) logs → PowersOf (c .m) powers → Parities parities
-      → (i : ℕ) → i < c .count → Evaluable (c .m) (c .r) (getD (c .points) i 0) f symbols logs powers parities
-  evaluable symbols logs powers parities s g p t i l = record {
-    width = numbers .width;
-    depth = numbers .r-top;
+  pub evaluable : (symbols logs powers : List ℕ) → LogsOf (c .m) f symbols → LogsFor (c .m) logs → PowersOf (c .m) powers
+      → (i : ℕ) → i < c .count → Evaluable (c .m) (c .r) (getD (c .points) i 0) f symbols logs powers
+  evaluable symbols logs powers s g p i l = record {
+    terms = record { width = numbers .width; short = short; symbols-are = s; powers-are = p };
+    depth = (numbers .r-pos, numbers .r-top);
     point = subst (λ (P : ℕ). P < 2 ^ c .m) (sym (code-point (w .code) i l)) (code-symbols (w .code) i);
     message = w .message .symbols;
-    short = short;
-    symbols-are = s;
     logs-are = g;
-    powers-are = p;
-    parities-are = t;
   }
 
   pub written-more : (i at : ℕ) (row′ row″ chunk : List ℕ) → Progress (c .m) (c .r) (pointsOf c) f row i at row′ → i < c .count

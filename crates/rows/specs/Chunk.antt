@@ -8,32 +8,23 @@ use Rattle.defs.specs.Place.{Symbols}
 use Rattle.defs.specs.Row.{Message}
 use Rattle.defs.specs.Limits.{deepest, longest}
 use Rattle.defs.specs.declared.Code.{Code}
-use Rattle.field.specs.Arithmetic.{Logarithm, Parities}
 use Rattle.code.specs.Checked.{IsCode}
 use Rattle.rows.specs.Tables.{PowersOf, LogsFor, LogsOf}
 
--- a message f is evaluated at a point, to depth r
-pub record Evaluable (m r P : ℕ) (f symbols logs powers parities : List ℕ) : Type 0 where
+-- a message f whose terms are to be looked up
+pub record Terms (m : ℕ) (f symbols powers : List ℕ) : Type 0 where
   pub width : Width m
-  pub depth : r ≤ deepest
+  pub short : length f ≤ longest
+  pub symbols-are : LogsOf m f symbols
+  pub powers-are : PowersOf m powers
+
+-- a message f is evaluated at a point, to depth r
+pub record Evaluable (m r P : ℕ) (f symbols logs powers : List ℕ) : Type 0 where
+  pub terms : Terms m f symbols powers
+  pub depth : (1 ≤ r) × (r ≤ deepest)
   pub point : P < 2 ^ m
   pub message : Symbols m f
-  pub short : length f ≤ longest
-  pub symbols-are : LogsOf m f symbols
   pub logs-are : LogsFor m logs
-  pub powers-are : PowersOf m powers
-  pub parities-are : Parities parities
-
--- the coefficient j alone, at a point that is not 0 and has the logarithm step
-pub record Coefficient (m P j step : ℕ) (f symbols powers parities : List ℕ) : Type 0 where
-  pub width : Width m
-  pub depth : j < deepest
-  pub logarithm : Logarithm m P step
-  pub message : Symbols m f
-  pub short : length f ≤ longest
-  pub symbols-are : LogsOf m f symbols
-  pub powers-are : PowersOf m powers
-  pub parities-are : Parities parities
 
 -- the row of a message f of the code is to be written over another
 pub record Writable (c : Code) (f row : List ℕ) : Type 0 where

@@ -4,6 +4,7 @@ use mathlib.Core.Path.{_≡_}
 use mathlib.Core.List.{List}
 use lib.ListN.{length, getD}
 use Rattle.defs.specs.Field.{pow}
+use Rattle.defs.specs.Limits.{longest}
 use Rattle.field.specs.Arithmetic.{Logarithm}
 
 -- the logarithm of 0: past the powers of every field, twice round
@@ -31,3 +32,18 @@ pub record LogsFor (m : ℕ) (logs : List ℕ) : Type 0 where
 -- the logarithms of the symbols of s
 pub record LogsOf (m : ℕ) (s logs : List ℕ) : Type 0 where
   pub at : (i : ℕ) → i < length s → LogOf m (getD s i 0) (getD logs i 0)
+
+-- l is a logarithm of the product of the powers a and b of 2; it may be the order
+pub record ProductLog (m a b l : ℕ) : Type 0 where
+  pub below : l < 2 ^ m
+  pub power : pow m 2 l ≡ pow m 2 (a + b)
+
+-- e is a logarithm of the power i of P; it may be the order
+pub record Exponent (m P i e : ℕ) : Type 0 where
+  pub below : e < 2 ^ m
+  pub power : pow m 2 e ≡ pow m P i
+
+-- the logarithms of the powers of P below k
+pub record ExponentsOf (m P k : ℕ) (table : List ℕ) : Type 0 where
+  pub size : length table ≡ longest
+  pub at : (i : ℕ) → i < k → Exponent m P i (getD table i 0)

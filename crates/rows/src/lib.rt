@@ -1,6 +1,6 @@
 // Chunks, handed about whole; the rows that are made of them; the calls encode and distance.
 ghost use mathlib.Core.Path.{_≡_};
-ghost use Prim.Native.Nat.{_+_, _*_, _<_, _≤_};
+ghost use Prim.Native.Nat.{_+_, _*_, _^_, _<_, _≤_};
 ghost use lib.ListN.{length, getD};
 ghost use Rattle.defs.specs.Field.{Width};
 ghost use Rattle.defs.specs.Place.{Symbols};
@@ -9,10 +9,11 @@ ghost use Rattle.defs.specs.Distance.{agree, damage, distance};
 ghost use Rattle.defs.specs.Limits.{deepest, longest};
 ghost use Rattle.defs.specs.Encode.{Encoded, distanceVerdict, distanceAnswer};
 ghost use Rattle.theory.specs.Fill.{filled};
+ghost use Rattle.field.specs.Arithmetic.{Logarithm};
 ghost use Rattle.code.specs.Checked.{pointsOf};
-ghost use Rattle.rows.specs.Tables.{PowersOf, LogsFor, LogsOf};
+ghost use Rattle.rows.specs.Tables.{PowersOf, LogsFor, LogsOf, ProductLog, ExponentsOf};
 ghost use Rattle.code.specs.Chunk.{chunkOf};
-ghost use Rattle.rows.specs.Chunk.{Coefficient, Evaluable, Writable, Chunks, Rows};
+ghost use Rattle.rows.specs.Chunk.{Terms, Evaluable, Writable, Chunks, Rows};
 use defs::Answer;
 use defs::Code;
 use defs::DEEPEST;
@@ -75,31 +76,66 @@ fn message_logs(m: usize, message: &[u8], logs: &[usize; 256]) -> [usize; LONGES
     table
 }
 
-// One Hasse coefficient of a message at a point that is not 0. 2^step is the point and 2^e its power. Since size is one more than the
-// order of 2, the last line but one brings e down again, without a branch.
-fn coefficient(
+// A logarithm of the product of the powers a and b of 2. The order of 2 is one less than size, so size counts for 1, and no branch is needed.
+fn product_log(m: usize, a: usize, b: usize) -> usize
+    requires { ⌜ Width m ⌝ }
+    requires { ⌜ (a < 2 ^ m) × (b < 2 ^ m) ⌝ }
+    ensures { λ l. ⌜ ProductLog m a b l ⌝ }
+{
+    let size = field::field_size(m);
+    let sum = a + b;
+    sum % size + sum / size
+}
+
+// The Hasse coefficient 0 of a message at a point that is not 0: every term counts. 2^step is the point. The logarithms of its powers are written
+// down on the way, for the other coefficients.
+fn first_coefficient(
     m: usize,
     point: u8,
-    j: usize,
     step: usize,
     message: &[u8],
     symbols: &[usize; LONGEST],
     powers: &[u8; PLACES],
-    parities: &[u8; LONGEST * DEEPEST],
+    exponents: &mut [usize; LONGEST],
 ) -> u8
-    requires { ⌜ Coefficient m point j step (now message) (now symbols) (now powers) (now parities) ⌝ }
-    ensures { λ c. ⌜ c ≡ coefficient m (now (message .entry)) point j ⌝ }
+    requires { ⌜ Terms m (now message) (now symbols) (now powers) ⌝ }
+    requires { ⌜ Logarithm m point step ⌝ }
+    requires { ⌜ length (now exponents) ≡ longest ⌝ }
+    ensures { λ c. ⌜ c ≡ coefficient m (now (message .entry)) point 0 ⌝ }
+    ensures { λ _. ⌜ ExponentsOf m point (length (now (message .entry))) (now (exponents .exit)) ⌝ }
 {
-    let size = field::field_size(m);
-    let k = message.len();
     let mut sum: u8 = 0;
     let mut e = 0;
+    let mut i = 0;
+    while i < message.len() {
+        exponents[i] = e;
+        sum = sum ^ powers[symbols[i] + e];
+        e = product_log(m, e, step);
+        i += 1;
+    }
+    sum
+}
+
+// The Hasse coefficient j at such a point. Terms with an even binomial are passed over.
+fn coefficient(
+    m: usize,
+    point: u8,
+    j: usize,
+    message: &[u8],
+    symbols: &[usize; LONGEST],
+    powers: &[u8; PLACES],
+    exponents: &[usize; LONGEST],
+) -> u8
+    requires { ⌜ Terms m (now message) (now symbols) (now powers) ⌝ }
+    requires { ⌜ ExponentsOf m point (length (now message)) (now exponents) ⌝ }
+    ensures { λ c. ⌜ c ≡ coefficient m (now (message .entry)) point j ⌝ }
+{
+    let k = message.len();
+    let mut sum: u8 = 0;
     let mut i = j;
     while i < k {
-        sum = sum ^ parities[i * DEEPEST + j] * powers[symbols[i] + e];
-        let next = e + step;
-        e = next % size + next / size;
-        i += 1;
+        sum = sum ^ powers[symbols[i] + exponents[i - j]];
+        i = field::next_odd(i, j);
     }
     sum
 }
@@ -115,7 +151,7 @@ fn at_zero(r: usize, message: &[u8]) -> [u8; DEEPEST]
     code::chunk_of(message, 0, r)
 }
 
-// The chunk of a message at a point: its first r Hasse coefficients.
+// The chunk of a message at a point: its first r Hasse coefficients. What stands in exponents is written over.
 pub fn evaluate(
     m: usize,
     r: usize,
@@ -124,19 +160,22 @@ pub fn evaluate(
     symbols: &[usize; LONGEST],
     logs: &[usize; 256],
     powers: &[u8; PLACES],
-    parities: &[u8; LONGEST * DEEPEST],
+    exponents: &mut [usize; LONGEST],
 ) -> [u8; DEEPEST]
-    requires { ⌜ Evaluable m r point (now message) (now symbols) (now logs) (now powers) (now parities) ⌝ }
+    requires { ⌜ Evaluable m r point (now message) (now symbols) (now logs) (now powers) ⌝ }
+    requires { ⌜ length (now exponents) ≡ longest ⌝ }
     ensures { λ a. ⌜ a ≡ chunkOf r (coefficient m (now (message .entry)) point) ⌝ }
+    ensures { λ _. ⌜ length (now (exponents .exit)) ≡ longest ⌝ }
 {
     if point == 0 {
         return at_zero(r, message);
     }
     let step = logs[point as usize];
     let mut chunk = [0u8; DEEPEST];
-    let mut j = 0;
+    chunk[0] = first_coefficient(m, point, step, message, symbols, powers, exponents);
+    let mut j = 1;
     while j < r {
-        chunk[j] = coefficient(m, point, j, step, message, symbols, powers, parities);
+        chunk[j] = coefficient(m, point, j, message, symbols, powers, exponents);
         j += 1;
     }
     chunk
@@ -181,10 +220,10 @@ pub fn write_row(code: Code, message: &[u8], row: &mut [u8])
     let m = code.m;
     let r = code.r;
     let count = code.count;
-    let parities = field::parities();
     let powers = powers(m);
     let logs = logs(m, &powers);
     let symbols = message_logs(m, message, &logs);
+    let mut exponents = [0usize; LONGEST];
     let mut at = 0;
     let mut i = 0;
     while i < count {
@@ -196,7 +235,7 @@ pub fn write_row(code: Code, message: &[u8], row: &mut [u8])
             &symbols,
             &logs,
             &powers,
-            &parities,
+            &mut exponents,
         );
         store(row, at, r, chunk);
         at += r;

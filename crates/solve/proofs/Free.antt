@@ -60,7 +60,7 @@ module _ (m rows cols c : ℕ) (M N : Matrix) (below : c < cols) (S : Stairs row
 
     row-zero : sum cols term ≡ 0
     row-zero =
-        sum-cut (suc c) cols term (λ j k. ap (mul m (M i j)) (free-past N c j k) ∙ mul-0 m (M i j)) below
+        sum-cut (suc c) cols term (λ j k b. ap (mul m (M i j)) (free-past N c j k) ∙ mul-0 m (M i j)) below
         ∙ ⊎-elim above past (lt-or-le i c)
 
   pub free-solves : Solves m M rows cols (free N c)

@@ -10,7 +10,7 @@ use lib.Pow.{pow-pos, split, mod-pow-add}
 use lib.Bits.{bitXor, differ, xor-step, xor-comm, xor-zero-l, xor-zero-r, xor-self, xor-shr, xor-mod, xor-lt, xor-shifted, xor-block}
 use Rattle.defs.specs.Field.{add, modulus, times2, mulBits, mul, pow}
 
-two-pos : zero < 2
+pub two-pos : zero < 2
 two-pos = zero-lt-suc 1
 
 -- what holds of 0 and of 1 holds of a bit

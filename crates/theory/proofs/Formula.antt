@@ -13,7 +13,7 @@ use Rattle.theory.specs.Poly.{h}
 use Rattle.theory.proofs.Field.{bit, sums, 0-add, mul-0, mul-comm, mul-left-comm, one-mul-of-lt}
 use Rattle.theory.proofs.Sum.{sum-suc, sum-ext, sum-add, sum-zero, sum-scale, sum-from}
 
-binom-small : (n k : ℕ) → n < k → binom n k ≡ 0
+pub binom-small : (n k : ℕ) → n < k → binom n k ≡ 0
 unfolding binom
 binom-small n zero l = absurd (not-suc-le-zero l)
 binom-small zero (suc k) l = refl

@@ -12,6 +12,7 @@ pub mod Linear
 pub mod Leibniz
 pub mod Divide
 pub mod Formula
+pub mod Binomial
 pub mod Multiply
 pub mod Product
 pub mod Count

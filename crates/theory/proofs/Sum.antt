@@ -59,11 +59,11 @@ sum-lt m zero f h = pow-pos m
 sum-lt m (suc n) f h = add-lt m _ _ (h 0) (sum-lt m n (λ j. f (suc j)) (λ j. h (suc j)))
 
 -- terms that are 0 from n on
-pub sum-cut : (n k : ℕ) (f : ℕ → ℕ) → ((j : ℕ) → n ≤ j → f j ≡ 0) → n ≤ k → sum k f ≡ sum n f
+pub sum-cut : (n k : ℕ) (f : ℕ → ℕ) → ((j : ℕ) → n ≤ j → j < k → f j ≡ 0) → n ≤ k → sum k f ≡ sum n f
 unfolding sum
-sum-cut zero k f h l = sum-zero k f (λ j i. h j (omega arith))
+sum-cut zero k f h l = sum-zero k f (λ j i. h j (omega arith) i)
 sum-cut (suc n) zero f h l = absurd (not-suc-le-zero l)
-sum-cut (suc n) (suc k) f h l = ap (add (f 0)) (sum-cut n k (λ j. f (suc j)) (λ j i. h (suc j) (omega arith)) (omega arith))
+sum-cut (suc n) (suc k) f h l = ap (add (f 0)) (sum-cut n k (λ j. f (suc j)) (λ j i b. h (suc j) (omega arith) (omega arith)) (omega arith))
 
 -- the sum over k ≤ j < n, its terms counted from 0
 tail : (k n p : ℕ) (f g : ℕ → ℕ) → n ≡ k + p → ((j : ℕ) → f (k + j) ≡ g j) → sumFrom k n f ≡ sum p g

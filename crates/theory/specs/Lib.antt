@@ -1,4 +1,5 @@
 -- The theory's own definitions, which no contract cites.
+pub mod Bits
 pub mod Fill
 pub mod Limits
 pub mod Poly

@@ -1,7 +1,9 @@
 -- `write_row` meets its contract: the chunks of the first i points are written.
 use Prim.Native.Nat.{_+_, _-_, _<_, _≤_}
+use mathlib.Core.Path.{_≡_, refl}
 use native.Mathlib.Omega.{arith}
 use lib.ListN.{length, take}
+use Rattle.defs.specs.Limits.{longest}
 use Rattle.theory.specs.Limits.{Numbers}
 use Rattle.theory.proofs.Limits.{count-small}
 use Rattle.code.proofs.Known.{code-numbers}
@@ -12,15 +14,16 @@ use Rattle.rows.proofs.write_row.Statement.{statement}
 use Rattle.rows.proofs.write_row.Tie as tie
 
 abbrev Inv-loop : tie.InvT-loop
-Inv-loop message row₀ points m r count parities powers logs symbols at₀ i₀ row at i = Progress m r (take count points) message row₀ i at row
+Inv-loop message row₀ points m r count powers logs symbols exponents₀ at₀ i₀ row exponents at i =
+    Progress m r (take count points) message row₀ i at row × (length exponents ≡ longest)
 
 abbrev μ-loop : tie.MeasureT-loop
-μ-loop message row₀ points m r count parities powers logs symbols at₀ i₀ row at i = count - i
+μ-loop message row₀ points m r count powers logs symbols exponents₀ at₀ i₀ row exponents at i = count - i
 
--- where the parities are made
-module _ (c : tie.After-parities Inv-loop μ-loop) where
+-- where the code's parts are at hand
+module _ (c : tie.After-points Inv-loop μ-loop) where
   abbrev start : tie.Start Inv-loop μ-loop
-  start = c .before .before .before .before
+  start = c .before .before .before
 
   abbrev given : Writable (start .args .code) (start .args .message .now) (start .args .row .now)
   given = start .pre
@@ -33,11 +36,11 @@ module _ (c : tie.After-message-logs Inv-loop μ-loop) where
   abbrev powered : tie.After-powers2 Inv-loop μ-loop
   powered = c .before .before .before
 
-  abbrev begun : tie.After-parities Inv-loop μ-loop
+  abbrev begun : tie.After-points Inv-loop μ-loop
   begun = powered .before .before
 
 -- where a chunk is to be made
-module _ (c : tie.After-parities2 Inv-loop μ-loop) where
+module _ (c : tie.After-exponents Inv-loop μ-loop) where
   abbrev turn : tie.In-loop Inv-loop μ-loop
   turn = c .before .before .before .before
 
@@ -58,10 +61,7 @@ module _ (c : tie.In-loop Inv-loop μ-loop) where
   few = c .loop-test .taken
 
   fits : c .before .loop .at + start (begun tables) .args .code .r ≤ length (start (begun tables) .args .row .now)
-  fits = chunk-fits _ _ _ (given (begun tables)) _ _ (c .before .loop .inv .at-is) few
-
-parities-requires : tie.Need-parities-requires Inv-loop μ-loop
-parities-requires c κs = search needs
+  fits = chunk-fits _ _ _ (given (begun tables)) _ _ (c .before .loop .inv .0 .at-is) few
 
 powers-requires : tie.Need-powers-requires Inv-loop μ-loop
 powers-requires c κs = numbers c .width
@@ -73,7 +73,7 @@ message-logs-requires : tie.Need-message-logs-requires Inv-loop μ-loop
 message-logs-requires c κs = let b = given (c .before .before .before .before) in ((b .message .symbols, short _ _ _ b), c .before .logs .ensures)
 
 loop-holds : tie.Need-loop-holds Inv-loop μ-loop
-loop-holds c = progress-first _ _ _ _ _
+loop-holds c = (progress-first _ _ _ _ _, refl)
 
 array-read-evaluate : tie.Need-array-read-evaluate Inv-loop μ-loop
 array-read-evaluate c = omega (arith, few c, count-small (numbers (begun (tables c))))
@@ -82,12 +82,12 @@ evaluate-requires : tie.Need-evaluate-requires Inv-loop μ-loop
 evaluate-requires c κs =
     let t = tables (turn c) in
     let b = begun t in
-    evaluable _ _ _ (given b) _ _ _ _ (t .message-logs .ensures) (t .before .before .logs .ensures) (powered t .before .powers .ensures) (b .parities .ensures) _ (few (turn c))
+    (evaluable _ _ _ (given b) _ _ _ (t .message-logs .ensures) (t .before .before .logs .ensures) (powered t .before .powers .ensures) _ (few (turn c)), turn c .before .loop .inv .1)
 
 store-requires : tie.Need-store-requires Inv-loop μ-loop
 store-requires c κs =
     let t = turn (c .before .before) in
-    (numbers (begun (tables t)) .r-top, omega (arith, fits t, t .before .loop .inv .long))
+    (numbers (begun (tables t)) .r-top, omega (arith, fits t, t .before .loop .inv .0 .long))
 
 add-at : tie.Need-add-at Inv-loop μ-loop
 add-at c = let t = turn (made c .before) in omega (arith, fits t, room-top _ _ _ (given (begun (tables t))))
@@ -101,13 +101,14 @@ loop-less c = search needs
 loop-again : tie.Need-loop-again Inv-loop μ-loop
 loop-again c =
     let t = turn (made c .before) in
-    written-more _ _ _ (given (begun (tables t))) _ _ _ _ _ (t .before .loop .inv) (few t) (made c .evaluate .ensures) (stored c .store .ensures)
+    let e = made c .evaluate .ensures in
+    (written-more _ _ _ (given (begun (tables t))) _ _ _ _ _ (t .before .loop .inv .0) (few t) (e .0) (stored c .store .ensures), e .1)
 
 same-length : tie.Need-same-length Inv-loop μ-loop
 same-length c = search needs
 
 returns : tie.Need-returns Inv-loop μ-loop
-returns c = written-last _ _ _ (given (begun (c .before .before))) _ _ _ (c .before .loop .inv) (c .loop-test .left)
+returns c = written-last _ _ _ (given (begun (c .before .before))) _ _ _ (c .before .loop .inv .0) (c .loop-test .left)
 
 pub write-row-spec : {M : Type 1} → statement M
 write-row-spec =
@@ -115,7 +116,6 @@ write-row-spec =
     (tie.spec
     Inv-loop
     μ-loop
-    parities-requires
     powers-requires
     logs-requires
     message-logs-requires
