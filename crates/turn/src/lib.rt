@@ -1,0 +1,45 @@
+// A slip turned into one of the other edition.
+ghost use Prim.Native.Nat.{_≤_};
+ghost use mathlib.Core.Bool.{_||_};
+ghost use Rattle.defs.specs.Turn.{Turned};
+use defs::Answer;
+use defs::LONGEST;
+use defs::Refusal;
+
+// Reads a slip of one edition and writes it in another.
+fn turn(from: usize, to: usize, slip: &[u8], bytes: &mut [u8]) -> Answer
+    requires { ⌜ isEdition from ≡ true × isEdition to ≡ true ⌝ }
+    ensures { λ a. ⌜ Turned from to (now (slip .entry)) (now (bytes .entry)) a (now (bytes .exit)) ⌝ }
+{
+    if slip::another_edition(slip, from) {
+        return Answer::Refused(Refusal::Edition);
+    }
+    let mut points = [0u8; LONGEST];
+    let mut row = [0u8; LONGEST];
+    let found = slip::slip_read(slip, &mut points, &mut row);
+    let a = found.answer;
+    if let Answer::Refused(x) = a {
+        return Answer::Refused(x);
+    }
+    let count = found.count;
+    let n = found.r * count;
+    let layout = slip::layout_of(to);
+    if layout.top < n {
+        return Answer::Refused(Refusal::RowLong);
+    }
+    slip::slip_write(to, found.m, found.r, found.k, &points[..count], &row[..n], bytes)
+}
+
+// A slip of edition 1 as one of edition 2. Done with its size.
+pub fn to_new(slip: &[u8], bytes: &mut [u8]) -> Answer
+    ensures { λ a. ⌜ Turned 1 2 (now (slip .entry)) (now (bytes .entry)) a (now (bytes .exit)) ⌝ }
+{
+    turn(1, 2, slip, bytes)
+}
+
+// And back.
+pub fn to_old(slip: &[u8], bytes: &mut [u8]) -> Answer
+    ensures { λ a. ⌜ Turned 2 1 (now (slip .entry)) (now (bytes .entry)) a (now (bytes .exit)) ⌝ }
+{
+    turn(2, 1, slip, bytes)
+}
