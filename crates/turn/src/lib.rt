@@ -40,6 +40,7 @@ fn turn(from: usize, to: usize, slip: &[u8], bytes: &mut [u8]) -> Answer
     }
     let count = found.count;
     let n = found.r * count;
+    let k = found.k;
     let layout = slip::layout_of(to);
     if layout.top < n {
         return Answer::Refused(Refusal::RowLong);
@@ -48,7 +49,7 @@ fn turn(from: usize, to: usize, slip: &[u8], bytes: &mut [u8]) -> Answer
         to,
         found.m,
         found.r,
-        found.k,
+        k,
         &points[..count],
         &row[..n],
         bytes,
