@@ -1,5 +1,5 @@
 -- Bytes that are read as a slip, with nothing in the bits that hold nothing, are the bytes that the writer makes of what was read.
-use Prim.Native.Nat.{ℕ, zero, suc, _+_, _*_, _-_, _/_, _<_, _≤_}
+use Prim.Native.Nat.{ℕ, zero, suc, _+_, _*_, _-_, _<_, _≤_}
 use mathlib.Core.Path.{_≡_, refl, ap, sym, _∙_}
 use mathlib.Core.List.{List, [], _++_}
 use native.Mathlib.Nat.{zero-add, mul-comm}
@@ -9,14 +9,14 @@ use lib.Dec.{lit<}
 use lib.ListN.{length, getD, List·getD-eq-default}
 use Rattle.defs.specs.Field.{Width}
 use Rattle.defs.specs.Place.{least, tab, Symbols}
-use Rattle.defs.specs.Slip.{allBits, numberAt, widthOf, fieldCode, headBits, slipSize, slipBits, slipOf, layoutOf, editionIn, layoutIn, widthIn, depthIn, countIn, dimensionIn, sizeIn, symbolsIn, pointsIn, rowIn, spareIn, usedIn, fillIn}
+use Rattle.defs.specs.Slip.{allBits, numberAt, widthOf, fieldCode, headBits, slipSize, slipBits, slipOf, editionIn, layoutIn, widthIn, depthIn, countIn, dimensionIn, sizeIn, symbolsIn, pointsIn, rowIn, spareIn, usedIn, fillIn}
 use Rattle.defs.specs.Read.{readVerdict}
 use Rattle.defs.specs.declared.Layout.{Layout}
 use Rattle.defs.specs.declared.Verdict.the-variants.{Fine}
 use Rattle.theory.proofs.Place.{length-tab, tab-append, tab-same, tab-getD}
 use Rattle.theory.proofs.Width.{width-pos}
-use Rattle.slip.specs.Laid.{Laid}
-use Rattle.slip.specs.Head.{headerBits, Fitting}
+use Rattle.slip.specs.declared.Head.{Head}
+use Rattle.slip.specs.Head.{headerBits, Fitting, Heads}
 use Rattle.slip.proofs.Bits.{length-all-bits, all-bits-are, number-nil, number-one, number-same, fields-same, bits-told, symbols-told}
 use Rattle.slip.proofs.Layouts.{edition-own}
 use Rattle.slip.proofs.HeaderBits.{fitting, header-edition, header-field, header-depth, header-count, header-dimension, header-spare}
@@ -36,6 +36,19 @@ field-told (suc (suc (suc f))) w = absurd (omega (arith, width-pos _ w))
 pub fill-few : (bytes : List ℕ) → Sound bytes → usedIn bytes ≤ 8 * length bytes × (8 * length bytes < usedIn bytes + 8)
 unfolding usedIn sizeIn slipSize
 fill-few bytes s = omega (arith, s .size, laid-in bytes .whole, mul-comm (widthIn bytes) (countIn bytes + depthIn bytes * countIn bytes))
+
+-- where the header was read, and where the zero bits and the fill were
+module _ (bytes : List ℕ) (h : Head) (heads : Heads bytes h) (from : ℕ) (e : from ≡ headBits (h .layout)) where
+  pub used-is : from + h .m * (h .count + h .r * h .count) ≡ usedIn bytes
+  unfolding usedIn
+  used-is = rw (e, heads .layout-is, heads .m-is, heads .r-is, heads .count-is)
+
+  pub loose-is : Sound bytes → (spare fill used : ℕ) → used ≡ usedIn bytes → spare ≡ numberAt (h .layout .zerobits) (from - h .layout .zerobits) (allBits 8 bytes)
+      → fill ≡ numberAt (8 * length bytes - used) used (allBits 8 bytes) → spare + fill ≡ spareIn bytes + fillIn bytes
+  unfolding spareIn fillIn headBits
+  loose-is s spare fill used u p q =
+      let place : from - h .layout .zerobits ≡ 9 + h .layout .countbits + h .layout .kbits = omega arith in
+      rw (p, q, place, u, heads .layout-is, s .size)
 
 -- what was read of bytes, and the bits that hold nothing
 module _ (bytes : List ℕ) (are : Symbols 8 bytes) (s : Sound bytes) where

@@ -1,8 +1,8 @@
 -- The header of a slip over its layout: its bits, the number that they make, and each field of it.
-use Prim.Native.Nat.{ℕ, _+_, _*_, _-_, _/_, _%_, _^_, _<_, _≤_}
-use mathlib.Core.Path.{_≡_, refl, ap, sym, _∙_}
+use Prim.Native.Nat.{ℕ, _+_, _*_, _-_, _%_, _^_, _<_}
+use mathlib.Core.Path.{_≡_, refl, sym, _∙_}
 use mathlib.Core.List.{List, _++_, append-assoc}
-use native.Mathlib.Nat.{add-zero, add-assoc, mul-le-mul-right, mod-eq-of-lt, zero-mod}
+use native.Mathlib.Nat.{add-assoc, mul-le-mul-right, mod-eq-of-lt, zero-mod}
 use native.Mathlib.Omega.{arith}
 use lib.Dec.{eqb}
 use lib.ListN.{length, length-append}
@@ -141,20 +141,21 @@ module _ (L : Layout) (m r k count : ℕ) where
         rw (e, past-count (L .kbits) 0, number-field (L .kbits) (k - 1) (bits (L .zerobits) 0), mod-eq-of-lt k-low)
         (omega (arith, s .k-pos))
 
-    -- written: edition, field, r - 1, n' - 1, k - 1 and the zero bits, one behind another
-    pub header-number : Laid L
-        → ((((L .edition * 4 + fieldCode m) * 8 + (r - 1)) * 2 ^ L .countbits + (count - 1)) * 2 ^ L .kbits + (k - 1)) * 2 ^ L .zerobits
-        ≡ numberAt (headBits L) 0 (headerBits L m r k count)
+    -- written: edition, field and r - 1, then n' - 1, k - 1 and the zero bits, one behind another
+    pub header-number : Laid L → (field counted whole h : ℕ) → field ≡ fieldCode m
+        → counted ≡ ((L .edition * 4 + field) * 8 + (r - 1)) * 2 ^ L .countbits + (count - 1)
+        → whole ≡ counted * 2 ^ L .kbits + (k - 1) → h ≡ whole * 2 ^ L .zerobits + 0 → h ≡ numberAt (headBits L) 0 (headerBits L m r k count)
     unfolding headerBits headBits
-    header-number laid =
-        let size : 9 + L .countbits + L .kbits + L .zerobits ≡ 4 + (2 + (3 + (L .countbits + (L .kbits + L .zerobits)))) = omega arith in
-        sym
-        (rw (size, number-fields 4 (2 + (3 + (L .countbits + (L .kbits + L .zerobits)))) (L .edition) field-on, mod-eq-of-lt (laid .edition-low))
-        (number-next (L .edition) 2 (3 + (L .countbits + (L .kbits + L .zerobits))) (fieldCode m) r-on (field-below m)
-        ∙ number-next (L .edition * 4 + fieldCode m) 3 (L .countbits + (L .kbits + L .zerobits)) (r - 1) count-on r-low
-        ∙ number-next ((L .edition * 4 + fieldCode m) * 8 + (r - 1)) (L .countbits) (L .kbits + L .zerobits) (count - 1) k-on count-low
-        ∙ number-next (((L .edition * 4 + fieldCode m) * 8 + (r - 1)) * 2 ^ L .countbits + (count - 1)) (L .kbits) (L .zerobits) (k - 1) (bits (L .zerobits) 0) k-low
-        ∙ rw (number-bits (L .zerobits) 0, zero-mod (2 ^ L .zerobits)) (add-zero _)))
+    header-number laid field counted whole h f c w e =
+        let z = L .zerobits in
+        let size : 9 + L .countbits + L .kbits + z ≡ 4 + (2 + (3 + (L .countbits + (L .kbits + z)))) = omega arith in
+        e ∙ sym
+        (rw (size, number-fields 4 (2 + (3 + (L .countbits + (L .kbits + z)))) (L .edition) field-on, mod-eq-of-lt (laid .edition-low))
+        (number-next (L .edition) 2 (3 + (L .countbits + (L .kbits + z))) (fieldCode m) r-on (field-below m)
+        ∙ number-next (L .edition * 4 + fieldCode m) 3 (L .countbits + (L .kbits + z)) (r - 1) count-on r-low
+        ∙ number-next ((L .edition * 4 + fieldCode m) * 8 + (r - 1)) (L .countbits) (L .kbits + z) (count - 1) k-on count-low
+        ∙ rw (← f, ← c)
+        (number-next counted (L .kbits) z (k - 1) (bits z 0) k-low ∙ rw (← w, number-bits z 0, zero-mod (2 ^ z)))))
 
 -- the header, and then the points and the row
 pub header-first : (L : Layout) (m r k : ℕ) (points w : List ℕ) → slipBits L m r k points w ≡ headerBits L m r k (length points) ++ allBits m (points ++ w)

@@ -1,5 +1,5 @@
 -- What is known of the layout of every edition, and the sizes that follow from it.
-use Prim.Native.Nat.{ℕ, _+_, _*_, _/_, _^_, _<_, _≤_}
+use Prim.Native.Nat.{ℕ, _*_, _/_, _^_, _<_, _≤_}
 use mathlib.Core.Bool.{Bool, true, false, _||_}
 use mathlib.Core.Path.{_≡_, refl, subst⁻¹}
 use native.Mathlib.Nat.{mul-le-mul}

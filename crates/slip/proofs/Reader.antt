@@ -1,6 +1,6 @@
 -- The ways out of the slip reader, and what its own functions rely on.
 use Prim.Native.Nat.{ℕ, _+_, _*_, _/_, _<_, _≤_}
-use mathlib.Core.Path.{_≡_, sym, _∙_}
+use mathlib.Core.Path.{_≡_, ap, sym, _∙_}
 use mathlib.Core.Bool.{true, false, _||_}
 use mathlib.Core.List.{List, []}
 use native.Mathlib.Omega.{arith}
@@ -9,9 +9,10 @@ use lib.ListN.{length, take}
 use borrow.Author.Tests.{lt-ltb, le-ltb, ltb-false, not-false}
 use Rattle.defs.specs.Refusal.{refuse, andThen, kept}
 use Rattle.defs.specs.Limits.{longest, numbersVerdict, firstTwice}
-use Rattle.defs.specs.Slip.{isEdition, headBits, slipSize, longestSlip, editionIn, layoutIn, widthIn, depthIn, countIn, dimensionIn, sizeIn, symbolsIn, pointsIn, rowIn, spareIn, fillIn}
+use Rattle.defs.specs.Slip.{allBits, numberAt, widthOf, isEdition, layoutOf, headBits, slipSize, longestSlip, editionIn, layoutIn, widthIn, depthIn, countIn, dimensionIn, sizeIn, symbolsIn, pointsIn, rowIn, spareIn, fillIn}
 use Rattle.defs.specs.Write.{front}
 use Rattle.defs.specs.Read.{firstVerdictOf, firstVerdict, headVerdict, readVerdict, reading, Read}
+use Rattle.defs.specs.declared.Layout.{Layout}
 use Rattle.defs.specs.declared.Refusal.{Refusal}
 use Rattle.defs.specs.declared.Refusal.the-variants.{PointTwice, Length, SlipShort, Edition, SlipLong, SlipBits}
 use Rattle.defs.specs.declared.Verdict.{Verdict}
@@ -36,6 +37,17 @@ numbersIn bytes = numbersVerdict (layoutIn bytes .top) (widthIn bytes) (depthIn 
 pub laid-in : (bytes : List ℕ) → Laid (layoutIn bytes)
 unfolding layoutIn
 laid-in bytes = laid (editionIn bytes)
+
+-- a header is read field by field
+pub heads-told : (bytes : List ℕ) (edition : ℕ) (L : Layout) (field m r count k : ℕ)
+    → edition ≡ numberAt 4 0 (allBits 8 bytes) → L ≡ layoutOf edition → field ≡ numberAt 2 4 (allBits 8 bytes) → m ≡ widthOf field
+    → r ≡ numberAt 3 6 (allBits 8 bytes) → count ≡ numberAt (L .countbits) 9 (allBits 8 bytes)
+    → k ≡ numberAt (L .kbits) (9 + L .countbits) (allBits 8 bytes)
+    → Heads bytes (record { edition = edition; layout = L; m = m; r = r + 1; count = count + 1; k = k + 1 })
+unfolding editionIn layoutIn widthIn depthIn countIn dimensionIn
+heads-told bytes edition L field m r count k e l f w d c q =
+    let at : L ≡ layoutOf (numberAt 4 0 (allBits 8 bytes)) = l ∙ ap layoutOf e in
+    record { edition-is = e; layout-is = at; m-is = rw (w, f); r-is = rw d; count-is = rw (c, at); k-is = rw (q, at) }
 
 -- what a header that was read says of the layout, the numbers and the size
 module _ (bytes : List ℕ) (h : Head) (s : Heads bytes h) where

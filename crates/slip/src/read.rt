@@ -31,7 +31,7 @@ fn byte_at(bytes: &[u8], i: usize) -> usize
 // The number that stands in so many bits from this place on: in one byte, or in two.
 fn number_at(bytes: &[u8], place: usize, width: usize) -> usize
     requires { ⌜ width ≤ 8 ⌝ }
-    ensures { λ x. ⌜ x ≡ numberAt width place (allBits 8 (now (bytes .entry))) ⌝ }
+    ensures { λ x. ⌜ (x ≡ numberAt width place (allBits 8 (now (bytes .entry)))) × (x < 256) ⌝ }
 {
     let first = byte_at(bytes, place / 8);
     let pair = first * 256 + byte_at(bytes, place / 8 + 1);

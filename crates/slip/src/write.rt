@@ -19,8 +19,8 @@ use defs::Verdict;
 
 // A number of so many bits behind another.
 fn behind(h: usize, width: usize, x: usize) -> usize
-    requires { ⌜ (h < 2 ^ 32) × (width ≤ 8) × (x < 256) ⌝ }
-    ensures { λ n. ⌜ (n ≡ h * 2 ^ width + x) × (n < 256 * (h + 1)) ⌝ }
+    requires { ⌜ (h < 2 ^ 32) × (width ≤ 8) × (x < 2 ^ 32) ⌝ }
+    ensures { λ n. ⌜ (n ≡ h * 2 ^ width + x) × (n ≤ h * 256 + x) ⌝ }
 {
     (h << width) + x
 }

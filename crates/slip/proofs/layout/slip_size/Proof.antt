@@ -1,29 +1,38 @@
-use borrow.Author.Needs.{needs}
+-- `slip::layout::slip_size` meets its contract: no step of it wraps.
+use Prim.Native.Nat.{_*_, _≤_}
+use native.Mathlib.Nat.{mul-le-mul}
+use native.Mathlib.Omega.{arith}
+use Rattle.defs.specs.Limits.{longest}
+use Rattle.defs.specs.Slip.{slipSize}
 use Rattle.slip.proofs.layout.slip_size.Statement.{statement}
 use Rattle.slip.proofs.layout.slip_size.Tie as tie
-use Rattle.slip.proofs.layout.slip_size.Reads as reads
-use Rattle.slip.proofs.layout.slip_size.Lts as lts
-use Rattle.slip.proofs.layout.head_bits.Reads as head-bits-reads
 
--- src/layout.rt:55:5
+-- where the header's bits are known
+module _ (c : tie.After-head-bits) where
+  abbrev start : tie.Start
+  start = c .before
+
+  product : start .args .symbols * start .args .m ≤ 2 * longest * 8
+  product =
+      mul-le-mul {n₁ = start .args .symbols} {m₁ = start .args .m} {n₂ = 2 * longest} {m₂ = 8} (omega (arith, start .pre .2))
+      (omega (arith, start .pre .1))
+
 head-bits-requires : tie.Need-head-bits-requires
-head-bits-requires c κs = search needs
+head-bits-requires c κs = c .pre .0
 
--- src/layout.rt:55:30
 mul-result : tie.Need-mul-result
-mul-result c = search needs
+mul-result c = omega (arith, product c)
 
--- src/layout.rt:55:30
 add-result : tie.Need-add-result
-add-result c = search needs
+add-result c = omega (arith, product c)
 
--- src/layout.rt:55:5
 add-result-2 : tie.Need-add-result-2
-add-result-2 c = search needs
+add-result-2 c = omega (arith, product c, c .head-bits .ensures, start c .pre .0 .bytes-top)
 
--- src/layout.rt:51:1
 returns : tie.Need-returns
-returns c = search needs
+unfolding slipSize
+returns c = rw (c .head-bits .ensures)
 
 pub slip-size-spec : {M : Type 1} → statement M
-slip-size-spec = tie.close (tie.spec head-bits-requires mul-result add-result add-result-2 returns)
+slip-size-spec =
+    tie.close (tie.spec head-bits-requires mul-result add-result add-result-2 returns)

@@ -8,7 +8,7 @@ use Rattle.defs.specs.Read.{headVerdict}
 use Rattle.defs.specs.declared.Verdict.the-variants.{Fine}
 use Rattle.slip.specs.declared.Head.{Head}
 use Rattle.slip.specs.Head.{Heads}
-use Rattle.slip.proofs.Reader.{Sound, sound, row-size, points-few, Searched, read-head, read-loose, read-twice, read-points, read-row, read-fine}
+use Rattle.slip.proofs.Reader.{Sound, sound, row-size, Searched, read-head, read-loose, read-twice, read-points, read-row, read-fine}
 use Rattle.slip.proofs.read.check_read.Statement.{statement}
 use Rattle.slip.proofs.read.check_read.Tie as tie
 
@@ -72,27 +72,22 @@ enum-told : tie.Need-enum-told
 enum-told c = search needs
 
 head-of-requires : tie.Need-head-of-requires
-head-of-requires c κs = slip c .long
+head-of-requires c κs = search needs
 
 mul-symbols : tie.Need-mul-symbols
 mul-symbols c =
     let h = c .before in
     omega (arith, row-size _ _ (heads h), slip (told h) .numbers .row-top)
 
-add-loose-bits : tie.Need-add-loose-bits
-add-loose-bits c =
-    let h = c .before in
-    omega (arith, row-size _ _ (heads h), slip (told h) .numbers .row-top, heads h .count-is, points-few _ (slip (told h)))
-
 loose-bits-requires : tie.Need-loose-bits-requires
 loose-bits-requires c κs =
     let h = c .before in
-    (fine (told h), heads h .m-is, omega (arith, heads h .count-is, row-size _ _ (heads h)))
+    (fine (told h), heads h)
 
 twice-in-requires : tie.Need-twice-in-requires
 twice-in-requires c κs =
     let h = c .before .before in
-    (fine (told h), heads h .m-is, heads h .count-is)
+    (fine (told h), heads h)
 
 returns-2 : tie.Need-returns-2
 returns-2 c = read-loose _ _ _ _ _ _ (searched (c .before)) (c .if1 .taken)
@@ -132,7 +127,6 @@ check-read-spec =
     enum-told
     head-of-requires
     mul-symbols
-    add-loose-bits
     loose-bits-requires
     twice-in-requires
     returns-2

@@ -70,7 +70,7 @@ enum-told : tie.Need-enum-told
 enum-told c = search needs
 
 head-of-requires : tie.Need-head-of-requires
-head-of-requires c κs = slip c .long
+head-of-requires c κs = search needs
 
 mul-n : tie.Need-mul-n
 mul-n c =
@@ -81,14 +81,14 @@ take-symbols-requires : tie.Need-take-symbols-requires
 take-symbols-requires c κs =
     let h = c .before .before in
     let t = h .before in
-    (holds (bytes t) (slip t) _ _ _ (heads h .m-is) (omega (arith, heads h .count-is)), omega (arith, heads h .count-is, read-room _ _ _ (fine t) .0))
+    (holds (bytes t) (slip t) _ _ _ (heads h) (omega (arith, heads h .count-is)), omega (arith, heads h .count-is, read-room _ _ _ (fine t) .0))
 
 take-symbols-requires-2 : tie.Need-take-symbols-requires-2
 take-symbols-requires-2 c κs =
     let h = read (c .before .before .before) in
     let t = h .before in
     let n = row-size _ _ (heads h) in
-    (holds (bytes t) (slip t) _ _ _ (heads h .m-is) (omega (arith, heads h .count-is, n)), omega (arith, n, read-room _ _ _ (fine t) .1))
+    (holds (bytes t) (slip t) _ _ _ (heads h) (omega (arith, heads h .count-is, n)), omega (arith, n, read-room _ _ _ (fine t) .1))
 
 same-length : tie.Need-same-length
 same-length c = search needs

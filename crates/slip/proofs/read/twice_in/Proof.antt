@@ -1,5 +1,5 @@
 -- `slip::read::twice_in` meets its contract: the points stand at the front of the array that is searched.
-use Prim.Native.Nat.{_≤_}
+use Prim.Native.Nat.{ℕ, _≤_}
 use mathlib.Core.Path.{sym, _∙_}
 use native.Mathlib.Omega.{arith}
 use lib.Seq.{length-take-le}
@@ -14,8 +14,11 @@ module _ (c : tie.Start) where
   slip : Sound (c .args .bytes .now)
   slip = sound _ (c .pre .0)
 
-  few : c .args .count ≤ longest
-  few = omega (arith, points-few (c .args .bytes .now) slip, c .pre .2)
+  abbrev count : ℕ
+  count = c .args .head .count
+
+  few : count ≤ longest
+  few = omega (arith, points-few (c .args .bytes .now) slip, c .pre .1 .count-is)
 
 -- where the points are in the array
 module _ (c : tie.After-take-symbols) where
@@ -28,7 +31,7 @@ slice-aggregate-take-symbols c = search needs
 take-symbols-requires : tie.Need-take-symbols-requires
 take-symbols-requires c κs =
     let s = c .before .before in
-    (holds (s .args .bytes .now) (slip s) _ _ _ (s .pre .1) (omega (arith, s .pre .2)), omega (arith, few s))
+    (holds (s .args .bytes .now) (slip s) _ 0 (count s) (s .pre .1) (omega (arith, s .pre .1 .count-is)), omega (arith, few s))
 
 array-share-prefix-found : tie.Need-array-share-prefix-found
 array-share-prefix-found c =
@@ -38,7 +41,7 @@ array-share-prefix-found c =
 slice-aggregate-first-twice : tie.Need-slice-aggregate-first-twice
 slice-aggregate-first-twice c =
     let t = c .before .before in
-    sym (length-take-le (start t .args .count) (t .take-symbols .last .1 .1 .1 .1 .0) (array-share-prefix-found (c .before)))
+    sym (length-take-le (count (start t)) (t .take-symbols .last .1 .1 .1 .1 .0) (array-share-prefix-found (c .before)))
 
 first-twice-requires : tie.Need-first-twice-requires
 first-twice-requires c κs = search needs
@@ -46,7 +49,7 @@ first-twice-requires c κs = search needs
 returns : tie.Need-returns
 returns c =
     let t = c .before .before .before in
-    c .first-twice .ensures ∙ twice-seen _ _ _ _ (start t .pre .2) (t .take-symbols .ensures)
+    c .first-twice .ensures ∙ twice-seen _ _ _ _ (start t .pre .1 .count-is) (t .take-symbols .ensures)
 
 pub twice-in-spec : {M : Type 1} → statement M
 twice-in-spec =
