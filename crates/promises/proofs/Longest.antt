@@ -12,7 +12,7 @@ use Rattle.defs.specs.Refusal.{refuse, andThen, answer}
 use Rattle.defs.specs.Limits.{deepest, longest, isWidth, numbersVerdict, codeVerdict, Within, Inside}
 use Rattle.defs.specs.Encode.{encodeVerdict, Encoded, distanceVerdict, distanceAnswer}
 use Rattle.defs.specs.Decode.{decodeVerdict, Decoded, refused}
-use Rattle.defs.specs.Slip.{isEdition, layoutOf, headBits, editionIn, layoutIn, widthIn, depthIn, countIn, dimensionIn}
+use Rattle.defs.specs.Slip.{isEdition, layoutOf, headBits, slipSize, longestSlip, editionIn, layoutIn, widthIn, depthIn, countIn, dimensionIn}
 use Rattle.defs.specs.Write.{writeVerdict, Written}
 use Rattle.defs.specs.Read.{firstVerdictOf, firstVerdict, reading, Read}
 use Rattle.defs.specs.declared.Refusal.the-variants.{Points, Length}
@@ -27,12 +27,15 @@ use Rattle.theory.proofs.Verdict.{then-fine}
 use Rattle.slip.proofs.Reader.{laid-in}
 use Rattle.slip.proofs.Taken.{read-sound}
 use Rattle.promises.proofs.Decode.{decode-same}
+use Rattle.line.specs.Text.{room}
 use Rattle.promises.proofs.Edition.{refused-by}
+use Rattle.promises.proofs.Enough.{enoughBytes}
 use Rattle.promises.proofs.Taken.{fine, s-is}
 
-pub tops : (longest ≡ 240) × (layoutOf 1 .top ≡ 128) × (layoutOf 2 .top ≡ 240)
-unfolding layoutOf
-tops = (refl, refl, refl)
+-- so long; of the longest slip so many bytes, and one more decides; and a line has no more than its room
+pub figures : (longest ≡ 240) × (layoutOf 1 .top ≡ 128) × (layoutOf 2 .top ≡ 240) × (longestSlip ≡ 484) × (enoughBytes ≡ 485) × (room ≡ 1448)
+unfolding layoutOf slipSize headBits
+figures = (refl, refl, refl, refl, refl, refl)
 
 -- ---- rows up to the top of an edition
 

@@ -8,7 +8,7 @@ use native.Mathlib.Nat.{mul-le-mul, mul-le-mul-right}
 use native.Mathlib.Omega.{arith}
 use lib.ListN.{length}
 use Rattle.defs.specs.Refusal.{numberOf, number, answer}
-use Rattle.defs.specs.Slip.{layoutOf, headBits, slipSize, longestSlip, slipOf}
+use Rattle.defs.specs.Slip.{layoutOf, headBits, slipSize, slipOf}
 use Rattle.defs.specs.Write.{writeVerdict, Written}
 use Rattle.defs.specs.Read.{readVerdict, reading, Read}
 use Rattle.defs.specs.declared.Refusal.{Refusal}
@@ -57,24 +57,26 @@ read-refused {bytes} {points} {row} {s} {x} t e =
 
 -- ---- the size of a slip
 
--- 259 bytes in edition 1 and 484 in edition 2
-pub slip-top : (edition m r k : ℕ) (points w : List ℕ) (size : ℕ) → writeVerdict edition m r k points w size ≡ Fine
-    → length (slipOf (layoutOf edition) m r k points w) ≤ headBits (layoutOf edition) / 8 + 2 * layoutOf edition .top
-unfolding slipSize
-slip-top edition m r k points w size e =
-    let L = layoutOf edition in
-    let x = writable edition m r k points w size e in
-    let n = within-limits L (laid edition) m r k points (x .within) .numbers in
-    let top = numbers-top (L .top) m r k (length points) (laid edition .top-low) (within-numbers L (laid edition) m r k points (x .within)) in
-    let few : length points + length w ≤ 2 * L .top = omega (arith, x .row, top, mul-le-mul-right (length points) (n .r-pos)) in
-    rw length-slip (omega (arith, mul-le-mul {n₁ = length points + length w} {m₁ = m} {n₂ = 2 * L .top} {m₂ = 8} few (width-top m (n .width))))
+module _ (m r k : ℕ) (points w : List ℕ) (size : ℕ) where
+  -- the header, and a byte for each symbol of the longest row and for as many points
+  pub slip-top : (edition : ℕ) → writeVerdict edition m r k points w size ≡ Fine
+      → length (slipOf (layoutOf edition) m r k points w) ≤ headBits (layoutOf edition) / 8 + 2 * layoutOf edition .top
+  unfolding slipSize
+  slip-top edition e =
+      let L = layoutOf edition in
+      let x = writable edition m r k points w size e in
+      let n = within-limits L (laid edition) m r k points (x .within) .numbers in
+      let top = numbers-top (L .top) m r k (length points) (laid edition .top-low) (within-numbers L (laid edition) m r k points (x .within)) in
+      let few : length points + length w ≤ 2 * L .top = omega (arith, x .row, top, mul-le-mul-right (length points) (n .r-pos)) in
+      rw length-slip (omega (arith, mul-le-mul {n₁ = length points + length w} {m₁ = m} {n₂ = 2 * L .top} {m₂ = 8} few (width-top m (n .width))))
 
--- so no slip is longer than 484
-pub slip-longest : (edition m r k : ℕ) (points w : List ℕ) (size : ℕ) → writeVerdict edition m r k points w size ≡ Fine
-    → length (slipOf (layoutOf edition) m r k points w) ≤ longestSlip
-unfolding slipSize headBits
-slip-longest edition m r k points w size e =
-    omega (arith, slip-top edition m r k points w size e, laid edition .bytes-top, laid edition .top-low)
+  -- so at most 484 bytes, and in edition 1 at most 259
+  pub slip-longest : (edition : ℕ) → writeVerdict edition m r k points w size ≡ Fine → length (slipOf (layoutOf edition) m r k points w) ≤ 484
+  slip-longest edition e = omega (arith, slip-top edition e, laid edition .bytes-top, laid edition .top-low)
+
+  pub slip-old : writeVerdict 1 m r k points w size ≡ Fine → length (slipOf (layoutOf 1) m r k points w) ≤ 259
+  unfolding layoutOf headBits
+  slip-old e = slip-top 1 e
 
 -- ---- the reader never answers 2, 5 or 8
 
