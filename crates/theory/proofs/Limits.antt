@@ -44,17 +44,19 @@ module _ (top m r k count : ℕ) (small : top ≤ longest) (e : numbersVerdict t
       let c0 = or-false (eqb count 0) (ltb (2 ^ m) count || ltb top (r * count)) (e3 .0) in
       let c1 = or-false (ltb (2 ^ m) count) (ltb top (r * count)) (c0 .1) in
       let k0 = or-false (eqb k 0) (ltb (r * count) k) (e4 .0) in
-      let short = ltb-false top (r * count) (c1 .1) in
-      (short, record {
-        width = width-known m (not-false _ (e1 .0));
-        r-pos = omega (arith, eqb-false r 0 (r0 .0));
-        r-top = ltb-false deepest r (r0 .1);
-        count-pos = omega (arith, eqb-false count 0 (c0 .0));
-        count-top = ltb-false (2 ^ m) count (c1 .0);
-        row-top = omega (arith, short, small);
-        k-pos = omega (arith, eqb-false k 0 (k0 .0));
-        k-top = ltb-false (r * count) k (k0 .1);
-      })
+      let short = ltb-false top (r * count) (c1 .1) in (
+        short,
+        record {
+          width = width-known m (not-false _ (e1 .0));
+          r-pos = omega (arith, eqb-false r 0 (r0 .0));
+          r-top = ltb-false deepest r (r0 .1);
+          count-pos = omega (arith, eqb-false count 0 (c0 .0));
+          count-top = ltb-false (2 ^ m) count (c1 .0);
+          row-top = omega (arith, short, small);
+          k-pos = omega (arith, eqb-false k 0 (k0 .0));
+          k-top = ltb-false (r * count) k (k0 .1);
+        },
+      )
 
   pub numbers-top : r * count ≤ top
   numbers-top = numbers-told .0
