@@ -17,6 +17,7 @@ use Rattle.defs.specs.declared.Refusal.the-variants.{SlipShort, Edition}
 use Rattle.defs.specs.declared.Verdict.{Verdict}
 use Rattle.defs.specs.declared.Verdict.the-variants.{Fine, Refused}
 use Rattle.defs.specs.declared.Answer.the-variants.{Done, Refused as No}
+use Rattle.theory.proofs.Verdict.{apart}
 use Rattle.promises.proofs.Roll.{alone}
 use Rattle.promises.proofs.RoundTrip.{written-edition, written-whole}
 
@@ -60,6 +61,11 @@ old-same bytes e =
     let same : firstVerdict bytes ≡ firstVerdictOf (λ e. eqb e 1) bytes = rw e in
     same ∙ was-first bytes
 
+-- the line that it printed: that of the refusal by its checks, or where these found nothing that of the row
+pub data WasLine (checks : Verdict) (Row : List ℕ → Type 0) (text : List ℕ) : Type 0 where
+  refused : (x : Refusal) → checks ≡ Refused x → text ≡ lineOf (No x) [] [] → WasLine checks Row text
+  read : checks ≡ Fine → Row text → WasLine checks Row text
+
 -- ---- bytes of edition 2
 
 module _ (bytes : List ℕ) (long : 3 ≤ length bytes) (e : editionIn bytes ≡ 2) where
@@ -81,9 +87,12 @@ module _ (bytes : List ℕ) (long : 3 ≤ length bytes) (e : editionIn bytes ≡
     unfolding kept
     first-keeps new old = rw first-refused
 
-    pub first-line : (text : List ℕ) → ((x : Refusal) → readsFirst ≡ Refused x → text ≡ lineOf (No x) [] []) → text ≡ 49 ∷ 49 ∷ 32 ∷ 48 ∷ 10 ∷ []
+    pub first-line : (Row : List ℕ → Type 0) (text : List ℕ) → WasLine readsFirst Row text → text ≡ 49 ∷ 49 ∷ 32 ∷ 48 ∷ 10 ∷ []
     unfolding lineOf heading decimal digits
-    first-line text is-line = is-line Edition first-refused
+    first-line Row text (refused x e q) =
+        let x-is : x ≡ Edition = cc (e, first-refused) in
+        q ∙ rw x-is
+    first-line Row text (read e row) = absurd (apart (cc (e, first-refused)))
 
 -- so whatever the writer makes of edition 2
 pub made-refused : (m r k d : ℕ) (points w bytes bytes′ : List ℕ) → Written 2 m r k points w bytes (Done d) bytes′ → wasVerdict (take d bytes′) ≡ Refused Edition
