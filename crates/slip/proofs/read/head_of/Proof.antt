@@ -58,7 +58,7 @@ add-r : tie.Need-add-r
 add-r c = omega (arith, c .number-at3 .ensures .1)
 
 number-at-requires-4 : tie.Need-number-at-requires-4
-number-at-requires-4 c κs = laid (laid-out c) .count-narrow
+number-at-requires-4 c κs = omega (arith, laid (laid-out c) .count-narrow)
 
 add-count : tie.Need-add-count
 add-count c = omega (arith, c .number-at4 .ensures .1)
@@ -67,7 +67,7 @@ add-number-at : tie.Need-add-number-at
 add-number-at c = omega (arith, laid (laid-out (deep c)) .count-narrow)
 
 number-at-requires-5 : tie.Need-number-at-requires-5
-number-at-requires-5 c κs = laid (laid-out (deep c)) .k-narrow
+number-at-requires-5 c κs = omega (arith, laid (laid-out (deep c)) .k-narrow)
 
 add-k : tie.Need-add-k
 add-k c = omega (arith, c .number-at5 .ensures .1)
