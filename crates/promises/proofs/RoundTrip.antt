@@ -67,14 +67,14 @@ module _ (edition : ℕ) (known : isEdition edition ≡ true) (m r k : ℕ) (poi
     unfolding editionIn headBits
     edition-back = field-back 4 0 (omega arith) ∙ header-edition L m r k (length points) (laid edition) ∙ edition-own edition known
 
-    layout-back : layoutIn slip ≡ L
+    pub layout-back : layoutIn slip ≡ L
     unfolding layoutIn
     layout-back = ap layoutOf edition-back
 
-    head : Head
+    pub head : Head
     head = record { edition = edition; layout = L; m = m; r = r; count = length points; k = k }
 
-    heads-back : Heads slip head
+    pub heads-back : Heads slip head
     unfolding head widthIn depthIn countIn dimensionIn headBits
     heads-back =
         let n = length points in
@@ -94,13 +94,13 @@ module _ (edition : ℕ) (known : isEdition edition ≡ true) (m r k : ℕ) (poi
         rw (← heads-back .m-is, layout-back)
         (tab-same _ (λ j. getD s j 0) (length s) (λ j b. symbol-back (past + j) (omega arith) ∙ g j b) ∙ tab-getD s)
 
-    points-back : pointsIn slip ≡ points
+    pub points-back : pointsIn slip ≡ points
     unfolding pointsIn head
     points-back =
         rw (← heads-back .count-is) (symbols-back 0 points (omega arith) (λ j l. rw (zero-add j) (List·getD-append points w 0 j l)))
 
     module _ (n : length w ≡ r * length points) where
-      row-back : rowIn slip ≡ w
+      pub row-back : rowIn slip ≡ w
       unfolding rowIn head
       row-back =
           rw (← heads-back .r-is, ← heads-back .count-is, ← n) (symbols-back (length points) w (omega arith) (λ j l. getD-append-add points w j 0))
@@ -135,7 +135,7 @@ module _ (edition : ℕ) (known : isEdition edition ≡ true) (m r k : ℕ) (poi
           ∙ behind-header L m r k points w left (m * N)
           ∙ number-beyond left (m * N) (allBits m (points ++ w)) (omega (arith, length-all-bits m (points ++ w), ap (λ (x : ℕ). m * x) (length-append points w))))
 
-      verdict-back : (points₀ row₀ : List ℕ) → length points ≤ length points₀ → length w ≤ length row₀
+      pub verdict-back : (points₀ row₀ : List ℕ) → length points ≤ length points₀ → length w ≤ length row₀
           → readVerdict slip (length points₀) (length row₀) ≡ Fine
       unfolding head
       verdict-back points₀ row₀ a b =
