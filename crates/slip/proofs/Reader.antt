@@ -25,6 +25,7 @@ use Rattle.theory.proofs.Verdict.{or-false, refuse-fine, then-fine}
 use Rattle.slip.specs.declared.Head.{Head}
 use Rattle.slip.specs.Laid.{Laid}
 use Rattle.slip.specs.Head.{Heads, Holds}
+use Rattle.slip.proofs.Bits.{all-bits-are, number-below}
 use Rattle.slip.proofs.Layouts.{laid, size-top}
 use Rattle.slip.proofs.Front.{length-symbols, take-front}
 
@@ -37,6 +38,11 @@ numbersIn bytes = numbersVerdict (layoutIn bytes .top) (widthIn bytes) (depthIn 
 pub laid-in : (bytes : List ℕ) → Laid (layoutIn bytes)
 unfolding layoutIn
 laid-in bytes = laid (editionIn bytes)
+
+-- an edition has four bits
+pub edition-low : (bytes : List ℕ) → editionIn bytes < 16
+unfolding editionIn
+edition-low bytes = number-below 4 0 (allBits 8 bytes) (all-bits-are 8 bytes)
 
 -- a header is read field by field
 pub heads-told : (bytes : List ℕ) (edition : ℕ) (L : Layout) (field m r count k : ℕ)

@@ -12,7 +12,7 @@ use Rattle.defs.specs.Place.{Symbols}
 use Rattle.defs.specs.Refusal.{refuse, andThen, answer, kept}
 use Rattle.defs.specs.Limits.{longest, numbersVerdict, codeVerdict, Within, Inside}
 use Rattle.defs.specs.Encode.{symbolsVerdict}
-use Rattle.defs.specs.Slip.{isEdition, layoutOf, slipSize, slipOf}
+use Rattle.defs.specs.Slip.{isEdition, layoutOf, slipSize, longestSlip, slipOf}
 use Rattle.defs.specs.Write.{front, writeVerdict, Written}
 use Rattle.defs.specs.declared.Layout.{Layout}
 use Rattle.defs.specs.declared.Refusal.{Refusal}
@@ -29,6 +29,7 @@ use Rattle.theory.proofs.Verdict.{refuse-fine, then-fine}
 use Rattle.slip.specs.Laid.{Laid}
 use Rattle.slip.specs.Head.{Fitting}
 use Rattle.slip.proofs.Bits.{symbols-append}
+use Rattle.slip.proofs.Layouts.{laid, size-top}
 use Rattle.slip.proofs.HeaderBits.{fitting}
 
 -- what a code inside the layout's limits says to the functions that write it
@@ -129,6 +130,12 @@ module _ (edition m r k : ℕ) (points w : List ℕ) (size : ℕ) where
   pub writable-fine : Writable edition m r k points w size → writeVerdict edition m r k points w size ≡ Fine
   writable-fine x =
       sym (by-symbols edition m r k points w size (x .known) (x .within) (x .row) (x .room) Fine (sym (symbols-fine m w (x .symbols))))
+
+  -- its slip is no longer than the longest
+  pub written-top : Writable edition m r k points w size → slipSize (layoutOf edition) m (length points + length w) ≤ longestSlip
+  written-top x =
+      let l = laid edition in
+      size-top (layoutOf edition) l m (length points + length w) (within-width _ l m r k points (x .within)) (few _ l m r k points (x .within) w (x .row))
 
 -- the ways out of the call
 module _ (edition m r k : ℕ) (points w bytes : List ℕ) where

@@ -12,8 +12,8 @@ use Rattle.defs.specs.Write.{writeVerdict}
 use Rattle.defs.specs.declared.Layout.{Layout}
 use Rattle.defs.specs.declared.Verdict.the-variants.{Fine}
 use Rattle.theory.proofs.Width.{width-top}
-use Rattle.slip.proofs.Layouts.{laid, laid-by, size-top}
-use Rattle.slip.proofs.Writer.{within-width, Writable, writable, few, written-refused, written-done}
+use Rattle.slip.proofs.Layouts.{laid, laid-by}
+use Rattle.slip.proofs.Writer.{within-width, Writable, writable, few, written-top, written-refused, written-done}
 use Rattle.slip.proofs.write.slip_write.Statement.{statement}
 use Rattle.slip.proofs.write.slip_write.Tie as tie
 
@@ -97,7 +97,7 @@ fill-slip-requires c κs =
       (laid-by _ _ (layout-is sized), rw (layout-is sized) (taken t .within), taken t .symbols),
       (
         sized .slip-size .ensures,
-        omega (arith, e, size-top _ (laid (edition t)) (m t) (symbols sized) (width t) (short t)),
+        omega (arith, e, written-top _ _ _ _ _ _ _ (taken t)),
         omega (arith, e, taken t .room),
       ),
     )
