@@ -25,6 +25,7 @@ use Rattle.theory.proofs.Place.{length-tab}
 use Rattle.theory.proofs.Limits.{limits-within}
 use Rattle.theory.proofs.Checks.{symbols-fine}
 use Rattle.theory.proofs.Verdict.{refuse-fine}
+use Rattle.slip.proofs.Reader.{one-edition}
 use Rattle.slip.proofs.Taken.{limits, read-sound, length-points, length-row, row-low}
 use Rattle.slip.proofs.Answered.{read-no, read-fine, read-numbers, points-in, row-in, points-fit, row-fits}
 use Rattle.turn.specs.Edition.{editionVerdict}
@@ -61,15 +62,13 @@ module _ (from to : ℕ) (slip : List ℕ) (size : ℕ) where
   refused-edition x e = rw (← two-checks (ltb (length slip) 3) (not (eqb from (editionIn slip))) SlipShort Edition _, e)
 
   module _ (known : isEdition from ≡ true) (f : editionVerdict from slip ≡ Fine) where
-    -- a reader that knows this edition alone reads such a slip as the one that knows both
-    as-both : firstVerdictOf (eqb from) slip ≡ firstVerdict slip
-    unfolding firstVerdictOf editionVerdict
-    as-both =
+    own : firstVerdictOf (eqb from) slip ≡ firstVerdict slip
+    unfolding editionVerdict
+    own =
         let is = not-false _ (refuse-fine _ _ _ (refuse-fine (ltb (length slip) 3) _ _ f .1) .0) in
-        let e : isEdition (editionIn slip) ≡ true = ap isEdition (sym (eqb-true from (editionIn slip) is)) ∙ known in
-        rw (is, e)
+        one-edition from slip known (sym (eqb-true from (editionIn slip) is))
 
-    -- and the reader's checks begin with those
+    -- the reader's checks begin with those
     again : (v w : Verdict) → firstVerdict slip ≡ v → andThen v (andThen (readVerdict slip longest longest) w) ≡ andThen (readVerdict slip longest longest) w
     unfolding readVerdict headVerdict andThen
     again Fine w e = refl
@@ -77,7 +76,7 @@ module _ (from to : ℕ) (slip : List ℕ) (size : ℕ) where
 
     by-reader : turnVerdict from to slip size ≡ andThen (readVerdict slip longest longest) behind
     unfolding turnVerdict
-    by-reader = rw as-both (again (firstVerdict slip) behind refl)
+    by-reader = rw own (again (firstVerdict slip) behind refl)
 
     pub refused-reader : (x : Refusal) → readVerdict slip longest longest ≡ Refused x → turnVerdict from to slip size ≡ Refused x
     unfolding andThen
