@@ -155,6 +155,15 @@ pub struct Answer {
 }
 
 impl Answer {
+    /// An answer with no header in it.
+    pub fn plain(number: u8, detail: usize) -> Answer {
+        Answer {
+            number,
+            detail,
+            header: Header::default(),
+        }
+    }
+
     /// The one word that the C function for this call returns.
     pub fn packed(self, kind: Kind) -> u64 {
         let number = u64::from(self.number);
@@ -180,6 +189,12 @@ pub struct Outcome {
 }
 
 impl Outcome {
+    /// An outcome with no header in it.
+    pub fn plain(number: u8, detail: usize, buffers: Vec<Vec<u8>>) -> Outcome {
+        let answer = Answer::plain(number, detail);
+        Outcome { answer, buffers }
+    }
+
     /// The outcome as the file of expected answers has it, without the newline.
     pub fn text(&self, kind: Kind) -> String {
         let Answer {
@@ -195,6 +210,14 @@ impl Outcome {
         fields.extend(self.buffers.iter().map(|bytes| hex(bytes)));
         fields.join(" ")
     }
+}
+
+/// What a fresh buffer holds, so that one that was not written is seen.
+pub const BEFORE: u8 = 0xEE;
+
+/// A buffer for a call whose outcome is known beforehand.
+pub fn fresh(length: usize) -> Vec<u8> {
+    vec![BEFORE; length]
 }
 
 /// Two lower-case hexadecimal digits for each byte, or `-` for no bytes.

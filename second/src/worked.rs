@@ -2,7 +2,7 @@
 //!
 //! No outcome here was computed by a program. P1 speaks of products and stands with the field's tests.
 
-use crate::call::{Answer, Call, Header, Outcome, RawCode};
+use crate::call::{fresh, Call, Header, Outcome, RawCode, BEFORE};
 
 /// A call, the outcome worked by hand, and what it shows.
 pub struct Worked {
@@ -10,9 +10,6 @@ pub struct Worked {
     pub call: Call,
     pub outcome: Outcome,
 }
-
-/// What every buffer holds before the call, so that an unchanged one is seen.
-const BEFORE: u8 = 0xEE;
 
 /// 2 in its low half: a call that cuts numbers to 32 bits takes it for 2.
 const WIDE: usize = (1 << 32) + 2;
@@ -41,24 +38,11 @@ fn code(m: usize, r: usize, k: usize, points: &[u8]) -> RawCode {
     }
 }
 
-fn fresh(length: usize) -> Vec<u8> {
-    vec![BEFORE; length]
-}
-
-fn outcome(number: u8, detail: usize, buffers: Vec<Vec<u8>>) -> Outcome {
-    let answer = Answer {
-        number,
-        detail,
-        header: Header::default(),
-    };
-    Outcome { answer, buffers }
-}
-
 fn encodes(name: &'static str, code: RawCode, message: &[u8], row: &[u8]) -> Worked {
     Worked {
         name,
         call: Call::encode(code, message.to_vec(), fresh(row.len())),
-        outcome: outcome(0, 0, vec![row.to_vec()]),
+        outcome: Outcome::plain(0, 0, vec![row.to_vec()]),
     }
 }
 
@@ -73,7 +57,7 @@ fn refuses(
     Worked {
         name,
         call: Call::encode(code, message.to_vec(), fresh(room)),
-        outcome: outcome(number, detail, vec![fresh(room)]),
+        outcome: Outcome::plain(number, detail, vec![fresh(room)]),
     }
 }
 
@@ -101,7 +85,7 @@ fn decodes(
             fresh(message.len()),
             fresh(depths.len()),
         ),
-        outcome: outcome(0, total, vec![message.to_vec(), depths.to_vec()]),
+        outcome: Outcome::plain(0, total, vec![message.to_vec(), depths.to_vec()]),
     }
 }
 
@@ -111,7 +95,7 @@ fn too_far(name: &'static str, code: RawCode, row: &[u8]) -> Worked {
     Worked {
         name,
         call: Call::decode(code, row.to_vec(), message, depths),
-        outcome: outcome(9, 0, buffers),
+        outcome: Outcome::plain(9, 0, buffers),
     }
 }
 
@@ -136,7 +120,7 @@ fn measures(name: &'static str, r: usize, a: &[u8], b: &[u8], answer: (u8, usize
     Worked {
         name,
         call: Call::distance(r, a.to_vec(), b.to_vec()),
-        outcome: outcome(answer.0, answer.1, vec![]),
+        outcome: Outcome::plain(answer.0, answer.1, vec![]),
     }
 }
 
@@ -242,7 +226,7 @@ fn slips() -> Vec<Worked> {
         count: 4,
         k: 4,
     };
-    let mut read = outcome(0, 0, vec![vec![0, 1, 2, 3], row.clone()]);
+    let mut read = Outcome::plain(0, 0, vec![vec![0, 1, 2, 3], row.clone()]);
     read.answer.header = header;
     let text = b"0 2 | 1 2 2 1 | 1 0 1 0\n".to_vec();
     let kept = |mut bytes: Vec<u8>| {
@@ -253,7 +237,7 @@ fn slips() -> Vec<Worked> {
         Worked {
             name: "the six bytes written",
             call: Call::slip_write(four, row, fresh(7)),
-            outcome: outcome(0, 6, vec![kept(SIX_BYTES.to_vec())]),
+            outcome: Outcome::plain(0, 6, vec![kept(SIX_BYTES.to_vec())]),
         },
         Worked {
             name: "the six bytes read",
@@ -263,12 +247,12 @@ fn slips() -> Vec<Worked> {
         Worked {
             name: "the line of the six bytes",
             call: Call::line(SIX_BYTES.to_vec(), fresh(25)),
-            outcome: outcome(0, 24, vec![kept(text)]),
+            outcome: Outcome::plain(0, 24, vec![kept(text)]),
         },
         Worked {
             name: "a text buffer one byte short",
             call: Call::line(SIX_BYTES.to_vec(), fresh(23)),
-            outcome: outcome(7, 0, vec![fresh(23)]),
+            outcome: Outcome::plain(7, 0, vec![fresh(23)]),
         },
     ]
 }
@@ -279,12 +263,12 @@ fn refuses_slip(name: &'static str, slip: &[u8], number: u8, line: &[u8]) -> [Wo
         Worked {
             name,
             call: Call::slip_read(slip.to_vec(), fresh(1), fresh(3)),
-            outcome: outcome(number, 0, vec![fresh(1), fresh(3)]),
+            outcome: Outcome::plain(number, 0, vec![fresh(1), fresh(3)]),
         },
         Worked {
             name,
             call: Call::line(slip.to_vec(), fresh(line.len())),
-            outcome: outcome(0, line.len(), vec![line.to_vec()]),
+            outcome: Outcome::plain(0, line.len(), vec![line.to_vec()]),
         },
     ]
 }
@@ -317,7 +301,7 @@ fn finds(name: &'static str, parts: &[&[u8]], answer: (u8, usize)) -> Worked {
     Worked {
         name,
         call: Call::roll_first(parts.concat()),
-        outcome: outcome(answer.0, answer.1, vec![]),
+        outcome: Outcome::plain(answer.0, answer.1, vec![]),
     }
 }
 

@@ -1,6 +1,6 @@
 //! The methods of this package agree with each other: all messages with Euclid's algorithm, and both with elimination.
 
-use second::call::{Answer, Call, Header, Kind, Outcome};
+use second::call::{Call, Kind, Outcome};
 use second::frame;
 use second::generate::codes::{self, Sizes};
 use second::generate::{case, damage};
@@ -24,12 +24,7 @@ fn run_plain(call: &Call) -> Outcome {
         Ok(detail) => (0, detail),
         Err(refused) => (refused.number, refused.place),
     };
-    let answer = Answer {
-        number,
-        detail,
-        header: Header::default(),
-    };
-    Outcome { answer, buffers }
+    Outcome::plain(number, detail, buffers)
 }
 
 #[test]

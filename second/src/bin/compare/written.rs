@@ -3,12 +3,9 @@
 
 use crate::run::{agrees, walk_of_archive};
 use second::archive::Archive;
-use second::call::{Answer, Call, Header, Kind, Outcome, RawCode};
+use second::call::{fresh, Call, Header, Kind, Outcome, RawCode};
 use second::generate::rolls::MOST_SLIPS;
 use second::generate::slips::{flip, loose_bits};
-
-/// What every buffer holds before a call.
-const BEFORE: u8 = 0xEE;
 
 /// The line of a slip with a bit that should be 0.
 const LINE: &[u8] = b"13 0\n";
@@ -50,9 +47,13 @@ impl Written {
         let read = read_call(write, &changed);
         let line = Call::line(changed.clone(), fresh(LINE.len()));
         let roll = Call::roll_first(changed);
-        agrees(archive, &read, &outcome(13, 0, read.buffers.clone()))
-            && agrees(archive, &line, &outcome(0, LINE.len(), vec![LINE.to_vec()]))
-            && agrees(archive, &roll, &outcome(0, slip.len(), vec![]))
+        agrees(archive, &read, &Outcome::plain(13, 0, read.buffers.clone()))
+            && agrees(
+                archive,
+                &line,
+                &Outcome::plain(0, LINE.len(), vec![LINE.to_vec()]),
+            )
+            && agrees(archive, &roll, &Outcome::plain(0, slip.len(), vec![]))
     }
 
     /// Slips are joined to a roll until there are enough. It is taken apart into them, and so it is with all bits changed
@@ -89,13 +90,13 @@ impl Written {
         let slip = read.inputs[0].clone();
         let write = Call::slip_write(RawCode { m, r, k, points }, row, fresh(slip.len()));
         self.again += 1;
-        agrees(archive, &write, &outcome(0, slip.len(), vec![slip]))
+        agrees(archive, &write, &Outcome::plain(0, slip.len(), vec![slip]))
     }
 }
 
 /// The archive reads the code and the row that it wrote.
 fn reads_back(archive: &mut Archive, write: &Call, slip: &[u8]) -> bool {
-    let mut expected = outcome(0, 0, write.inputs.clone());
+    let mut expected = Outcome::plain(0, 0, write.inputs.clone());
     expected.answer.header = header_of(write);
     agrees(archive, &read_call(write, slip), &expected)
 }
@@ -113,17 +114,4 @@ fn header_of(write: &Call) -> Header {
         k: write.numbers[2],
         count: write.inputs[0].len(),
     }
-}
-
-fn outcome(number: u8, detail: usize, buffers: Vec<Vec<u8>>) -> Outcome {
-    let answer = Answer {
-        number,
-        detail,
-        header: Header::default(),
-    };
-    Outcome { answer, buffers }
-}
-
-fn fresh(length: usize) -> Vec<u8> {
-    vec![BEFORE; length]
 }
