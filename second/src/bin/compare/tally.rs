@@ -21,7 +21,7 @@ const LEAST_ROLLS: u64 = 20_000;
 const LEAST_OF_A_WAY: u64 = 1000;
 const LEAST_WRITTEN_ROLLS: u64 = 100;
 
-/// In so many slips of either writer one bit is changed that holds nothing, and so many have the spare bit or a fill bit.
+/// So many slips of either writer are refused for one bit that holds nothing, and so many for the spare bit or a fill bit.
 const LEAST_LOOSENED: u64 = 5000;
 const LEAST_OF_A_LOOSE_BIT: u64 = 1000;
 /// So many slips are read and written again.
@@ -36,7 +36,7 @@ pub struct Tally {
     /// How often the line began with each number.
     printed: [u64; NUMBERS],
     changed_lines: u64,
-    /// Slips of the second writer with one bit changed that holds nothing, read or given to line.
+    /// Slips of the second writer with one bit changed that holds nothing, which slip_read or line answered with 13.
     spare: u64,
     fill: u64,
     accepted_at_radius: u64,
@@ -80,8 +80,12 @@ impl Tally {
         let number = usize::from(outcome.answer.number);
         self.answers[call.kind as usize - 1][number] += 1;
         match made.origin {
-            Origin::Slip(Change::Loose(Loose::Spare)) => self.spare += 1,
-            Origin::Slip(Change::Loose(Loose::Fill)) => self.fill += 1,
+            Origin::Slip(Change::Loose(bit)) if says_of_the_slip(call, outcome) == 13 => {
+                match bit {
+                    Loose::Spare => self.spare += 1,
+                    Loose::Fill => self.fill += 1,
+                }
+            }
             _ => (),
         }
         match call.kind {
@@ -118,7 +122,7 @@ impl Tally {
             self.changed_lines += 1;
         }
         if outcome.answer.number == 0 {
-            self.printed[line::number(&outcome.buffers[0])] += 1;
+            self.printed[says_of_the_slip(&made.call, outcome)] += 1;
         }
     }
 
@@ -189,11 +193,11 @@ impl Tally {
             ("the second program", self.spare + self.fill),
             ("the archive", self.written.loosened),
         ] {
-            let what = format!("a slip of {writer} with one spare or fill bit changed");
+            let what = format!("a slip of {writer} refused for one spare or fill bit");
             ask(count, LEAST_LOOSENED, what);
         }
         for (bit, count) in [("spare", self.spare), ("fill", self.fill)] {
-            let what = format!("a {bit} bit changed alone");
+            let what = format!("a slip refused for a {bit} bit alone");
             ask(count, LEAST_OF_A_LOOSE_BIT, what);
         }
         let again = "a slip read and written again".into();
@@ -254,7 +258,7 @@ impl fmt::Display for Tally {
         )?;
         writeln!(
             out,
-            "slips with one bit changed that holds nothing: {} spare, {} fill; {} more of slips that the archive wrote",
+            "slips refused for one bit that holds nothing: {} spare, {} fill; {} more of slips that the archive wrote",
             self.spare, self.fill, self.written.loosened
         )?;
         writeln!(
@@ -262,6 +266,14 @@ impl fmt::Display for Tally {
             "slips that the archive read and wrote again: {}",
             self.written.again
         )
+    }
+}
+
+/// The number that the outcome has for the slip: in a line that was written the one that it begins with.
+fn says_of_the_slip(call: &Call, outcome: &Outcome) -> usize {
+    match (call.kind, outcome.answer.number) {
+        (Kind::Line, 0) => line::number(&outcome.buffers[0]),
+        (_, number) => number.into(),
     }
 }
 
