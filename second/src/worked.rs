@@ -1,8 +1,10 @@
-//! Calls whose outcomes were worked by hand: the rows P2 to P12, the limits, two faults at once, and the six-byte slip.
+//! Calls whose outcomes were worked by hand: the rows P2 to P12, the limits, two faults at once, the six-byte slip, and rolls.
 //!
-//! No outcome here was computed by a program. P1 speaks of products and stands with the field's tests.
+//! No outcome here was computed by a program. P1 speaks of products and stands with the field's tests, and what slips of
+//! edition 2 add stands in `editions`.
 
 use crate::call::{fresh, Call, Header, Outcome, RawCode, BEFORE};
+use crate::editions;
 
 /// A call, the outcome worked by hand, and what it shows.
 pub struct Worked {
@@ -12,10 +14,10 @@ pub struct Worked {
 }
 
 /// 2 in its low half: a call that cuts numbers to 32 bits takes it for 2.
-const WIDE: usize = (1 << 32) + 2;
+pub const WIDE: usize = (1 << 32) + 2;
 
 /// P4's row as a slip.
-const SIX_BYTES: [u8; 6] = [0x10, 0x83, 0x06, 0x1B, 0x73, 0xB8];
+pub const SIX_BYTES: [u8; 6] = [0x10, 0x83, 0x06, 0x1B, 0x73, 0xB8];
 
 pub fn all() -> Vec<Worked> {
     let mut cases = rows();
@@ -26,10 +28,11 @@ pub fn all() -> Vec<Worked> {
     cases.extend(slips());
     cases.extend(loose_bits());
     cases.extend(rolls());
+    cases.extend(editions::all());
     cases
 }
 
-fn code(m: usize, r: usize, k: usize, points: &[u8]) -> RawCode {
+pub fn code(m: usize, r: usize, k: usize, points: &[u8]) -> RawCode {
     RawCode {
         m,
         r,
@@ -134,8 +137,8 @@ fn distances() -> Vec<Worked> {
         measures("two lengths", 2, &[0; 4], &[0; 2], (7, 0)),
         measures("no symbols", 1, &[], &[], (7, 0)),
         measures("no multiple of r", 2, &[0; 3], &[0; 3], (7, 0)),
-        measures("128 symbols", 8, &[1; 128], &[0; 128], (0, 128)),
-        measures("129 symbols", 1, &[0; 129], &[0; 129], (7, 0)),
+        measures("240 symbols", 8, &[1; 240], &[0; 240], (0, 240)),
+        measures("241 symbols", 1, &[0; 241], &[0; 241], (7, 0)),
     ]
 }
 
@@ -149,7 +152,6 @@ fn limits() -> Vec<Worked> {
     let first = |count: u8| (0..count).collect::<Vec<u8>>();
     let row = |c, r, count| constant_row(c, r, count);
     let sixteen = code(4, 1, 1, &first(16));
-    let deep = code(8, 8, 1, &first(16));
     let two = |k| code(2, 1, k, &[0, 1]);
     vec![
         encodes("r 8", code(8, 8, 1, &[5]), &[7], &row(7, 8, 1)),
@@ -162,12 +164,30 @@ fn limits() -> Vec<Worked> {
             17,
             (3, 0),
         ),
-        encodes("m 8, r 8, 16 points", deep, &[200], &row(200, 8, 16)),
-        refuses(
-            "m 8, r 8, 17 points",
-            code(8, 8, 1, &first(17)),
+        encodes(
+            "m 8, r 8, 30 points",
+            code(8, 8, 1, &first(30)),
             &[200],
-            136,
+            &row(200, 8, 30),
+        ),
+        refuses(
+            "m 8, r 8, 31 points",
+            code(8, 8, 1, &first(31)),
+            &[200],
+            248,
+            (3, 0),
+        ),
+        encodes(
+            "m 8, r 1, 240 points",
+            code(8, 1, 1, &first(240)),
+            &[200],
+            &[200; 240],
+        ),
+        refuses(
+            "m 8, r 1, 241 points",
+            code(8, 1, 1, &first(241)),
+            &[200],
+            241,
             (3, 0),
         ),
         refuses("no points", code(8, 1, 1, &[]), &[1], 0, (3, 0)),
@@ -221,6 +241,7 @@ fn slips() -> Vec<Worked> {
     let four = code(2, 2, 4, &[0, 1, 2, 3]);
     let row = vec![1, 3, 0, 3, 2, 3, 2, 0];
     let header = Header {
+        edition: 1,
         m: 2,
         r: 2,
         count: 4,
@@ -236,7 +257,7 @@ fn slips() -> Vec<Worked> {
     vec![
         Worked {
             name: "the six bytes written",
-            call: Call::slip_write(four, row, fresh(7)),
+            call: Call::slip_write(1, four, row, fresh(7)),
             outcome: Outcome::plain(0, 6, vec![kept(SIX_BYTES.to_vec())]),
         },
         Worked {
@@ -258,7 +279,7 @@ fn slips() -> Vec<Worked> {
 }
 
 /// A slip that the reader refuses, whatever its buffers, and the line that says so.
-fn refuses_slip(name: &'static str, slip: &[u8], number: u8, line: &[u8]) -> [Worked; 2] {
+pub fn refuses_slip(name: &'static str, slip: &[u8], number: u8, line: &[u8]) -> [Worked; 2] {
     [
         Worked {
             name,
@@ -297,7 +318,7 @@ fn loose_bits() -> Vec<Worked> {
     .collect()
 }
 
-fn finds(name: &'static str, parts: &[&[u8]], answer: (u8, usize)) -> Worked {
+pub fn finds(name: &'static str, parts: &[&[u8]], answer: (u8, usize)) -> Worked {
     Worked {
         name,
         call: Call::roll_first(parts.concat()),
@@ -306,7 +327,7 @@ fn finds(name: &'static str, parts: &[&[u8]], answer: (u8, usize)) -> Worked {
 }
 
 /// The smallest slip: m 2, r 1, k 1, the point 0 and the symbol 1.
-const FOUR_BYTES: [u8; 4] = [0x10, 0x00, 0x00, 0x10];
+pub const FOUR_BYTES: [u8; 4] = [0x10, 0x00, 0x00, 0x10];
 
 fn rolls() -> Vec<Worked> {
     vec![

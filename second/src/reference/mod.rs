@@ -57,8 +57,8 @@ fn detail(call: &Call, buffers: &mut [Vec<u8>]) -> Result<usize, Refusal> {
             decode::decode(m, r, k, points, row, message, depths)
         }
         (Kind::Distance, &[r], [a, b], []) => rows::distance(r, a, b),
-        (Kind::SlipWrite, &[m, r, k], [points, row], [bytes]) => {
-            slip::write(m, r, k, points, row, bytes)
+        (Kind::SlipWrite, &[edition, m, r, k], [points, row], [bytes]) => {
+            slip::write(edition, m, r, k, points, row, bytes)
         }
         (Kind::Line, [], [slip], [text]) => line::line(slip, text),
         (Kind::RollFirst, [], [roll], []) => roll::first(roll),
