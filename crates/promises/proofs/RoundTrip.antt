@@ -71,7 +71,7 @@ module _ (edition : ℕ) (known : isEdition edition ≡ true) (m r k : ℕ) (poi
     unfolding layoutIn
     layout-back = ap layoutOf edition-back
 
-    pub head : Head
+    unfoldable pub head : Head
     head = record { edition = edition; layout = L; m = m; r = r; count = length points; k = k }
 
     pub heads-back : Heads slip head
@@ -135,13 +135,12 @@ module _ (edition : ℕ) (known : isEdition edition ≡ true) (m r k : ℕ) (poi
           ∙ behind-header L m r k points w left (m * N)
           ∙ number-beyond left (m * N) (allBits m (points ++ w)) (omega (arith, length-all-bits m (points ++ w), ap (λ (x : ℕ). m * x) (length-append points w))))
 
-      pub verdict-back : (points₀ row₀ : List ℕ) → length points ≤ length points₀ → length w ≤ length row₀
-          → readVerdict slip (length points₀) (length row₀) ≡ Fine
+      pub verdict-back : (count size : ℕ) → length points ≤ count → length w ≤ size → readVerdict slip count size ≡ Fine
       unfolding head
-      verdict-back points₀ row₀ a b =
+      verdict-back count size a b =
           let searched : Searched slip head 0 (firstTwice points) =
           record { fine = head-back; heads = heads-back; loose-is = omega (arith, spare-back, fill-back); twice-is = rw points-back } in
-          sym (read-fine slip (length points₀) (length row₀) head 0 _ searched (omega arith) points-once a (omega (arith, n)))
+          sym (read-fine slip count size head 0 _ searched (omega arith) points-once a (omega (arith, n)))
 
       -- a slip is read as what it was made of
       pub slip-read-back : (points₀ row₀ : List ℕ) → length points ≤ length points₀ → length w ≤ length row₀
@@ -149,7 +148,7 @@ module _ (edition : ℕ) (known : isEdition edition ≡ true) (m r k : ℕ) (poi
           → (s ≡ record { answer = Done 0; edition = edition; m = m; r = r; count = length points; k = k }) × (points₁ ≡ front points points₀) × (row₁ ≡ front w row₀)
       unfolding head kept
       slip-read-back points₀ row₀ a b s points₁ row₁ t =
-          let v = verdict-back points₀ row₀ a b in (
+          let v = verdict-back (length points₀) (length row₀) a b in (
             rw v at (t .answers) ∙ sym (reading-done slip head heads-back),
             rw (v, points-back) at (t .leaves-points),
             rw (v, row-back) at (t .leaves-row),

@@ -13,6 +13,7 @@ use Rattle.defs.specs.Limits.{longest, Within}
 use Rattle.defs.specs.Slip.{isEdition, layoutOf, slipOf, editionIn, layoutIn, widthIn, depthIn, countIn, dimensionIn, pointsIn, rowIn}
 use Rattle.defs.specs.Write.{front}
 use Rattle.defs.specs.Read.{firstVerdictOf, firstVerdict, headVerdict, readVerdict}
+use Rattle.defs.specs.Decode.{Decoded}
 use Rattle.defs.specs.Line.{Line, refused, read}
 use Rattle.defs.specs.Turn.{turned, turnVerdict, Turned}
 use Rattle.defs.specs.declared.Refusal.{Refusal}
@@ -20,10 +21,10 @@ use Rattle.defs.specs.declared.Verdict.{Verdict}
 use Rattle.defs.specs.declared.Verdict.the-variants.{Fine, Refused}
 use Rattle.defs.specs.declared.Answer.{Answer}
 use Rattle.defs.specs.declared.Answer.the-variants.{Done, Refused as No}
-use Rattle.theory.proofs.Limits.{limits-within}
-use Rattle.theory.proofs.Verdict.{refuse-fine, then-fine, answer-done, kept-refused}
+use Rattle.theory.proofs.Limits.{numbers-top, count-small, limits-within}
+use Rattle.theory.proofs.Verdict.{apart, refuse-fine, then-fine, answer-done, kept-refused}
 use Rattle.slip.proofs.Front.{take-front}
-use Rattle.slip.proofs.Reader.{one-edition, read-checked}
+use Rattle.slip.proofs.Reader.{laid-in, one-edition, read-checked}
 use Rattle.slip.proofs.Canonical.{slip-read-whole}
 use Rattle.slip.proofs.Taken.{limits, read-sound, length-points, length-row, row-low}
 use Rattle.promises.proofs.RoundTrip.{edition-back, head, heads-back, points-back, row-back, verdict-back}
@@ -40,8 +41,8 @@ pub record Turnable (from to : ℕ) (slip : List ℕ) : Type 0 where
   pub readable : readVerdict slip longest longest ≡ Fine
   pub short : depthIn slip * countIn slip ≤ layoutOf to .top
 
-module _ (from to : ℕ) (known : isEdition from ≡ true) (wanted : isEdition to ≡ true) (slip : List ℕ) (size : ℕ) where
-  pub turn-known : turnVerdict from to slip size ≡ Fine → Turnable from to slip × (length (turned to slip) ≤ size)
+module _ (from to : ℕ) (slip : List ℕ) (size : ℕ) where
+  turn-known : turnVerdict from to slip size ≡ Fine → Turnable from to slip × (length (turned to slip) ≤ size)
   unfolding turnVerdict firstVerdictOf
   turn-known e =
       let e1 = then-fine _ _ e in
@@ -57,9 +58,9 @@ module _ (from to : ℕ) (known : isEdition from ≡ true) (wanted : isEdition t
         ltb-false size _ (e5 .0),
       )
 
-  pub turn-fine : Turnable from to slip → length (turned to slip) ≤ size → turnVerdict from to slip size ≡ Fine
+  turn-fine : isEdition from ≡ true → Turnable from to slip → length (turned to slip) ≤ size → turnVerdict from to slip size ≡ Fine
   unfolding turnVerdict headVerdict andThen refuse
-  turn-fine t room =
+  turn-fine known t room =
       let begins = then-fine (firstVerdict slip) _ (read-checked slip longest longest (t .readable)) .0 in
       rw (
         one-edition from slip known (t .edition) ∙ begins,
@@ -108,8 +109,86 @@ module _ (from to : ℕ) (wanted : isEdition to ≡ true) (slip : List ℕ) (t :
   -- THE READER TAKES IT
   pub turned-read : readVerdict (turned to slip) longest longest ≡ Fine
   unfolding turned
-  turned-read = ?
+  turned-read =
+      let n = read-sound slip longest longest (t .readable) .numbers in
+      verdict-back to wanted m r k (pointsIn slip) (rowIn slip) within (row-low slip) row-is longest longest
+      (omega (arith, length-points slip, count-small n)) (omega (arith, length-row slip, n .row-top))
+
+  -- DECODE ANSWERS THE SAME
+  pub decode-kept : {message depth message′ depth′ : List ℕ} {a : Answer} → Decoded m r k (pointsIn slip) (rowIn slip) message depth a message′ depth′
+      → Decoded (widthIn (turned to slip)) (depthIn (turned to slip)) (dimensionIn (turned to slip)) (pointsIn (turned to slip)) (rowIn (turned to slip)) message depth a message′ depth′
+  decode-kept d = rw (numbers-kept .0, numbers-kept .1, numbers-kept .3, points-kept, row-kept) d
 
   -- THE LINE IS THE SAME
   pub line-kept : (text : List ℕ) → Line slip text → Line (turned to slip) text
-  line-kept text l = ?
+  line-kept text (refused x e q) = absurd (apart (let f = t .readable in cc))
+  line-kept text (read e row) = read turned-read (rw (numbers-kept .0, numbers-kept .1, numbers-kept .3, points-kept, row-kept) row)
+
+  again : (edition : ℕ) (T : List ℕ) → (widthIn T ≡ m) × (depthIn T ≡ r) × (countIn T ≡ countIn slip) × (dimensionIn T ≡ k) → pointsIn T ≡ pointsIn slip → rowIn T ≡ rowIn slip
+      → turned edition T ≡ slipOf (layoutOf edition) m r k (pointsIn slip) (rowIn slip)
+  unfolding turned
+  again edition T n p w = rw (n .0, n .1, n .3, p, w)
+
+  -- AND BACK: what it is turned into is turned into the slip again
+  pub turnable-back : Turnable to from (turned to slip)
+  unfolding layoutIn
+  turnable-back = record {
+    edition = edition-new;
+    readable = turned-read;
+    short =
+        let s = read-sound slip longest longest (t .readable) in
+        rw (numbers-kept .1, numbers-kept .2, ← t .edition) (numbers-top (layoutIn slip .top) _ _ _ _ (laid-in slip .top-low) (s .fine));
+  }
+
+  pub turned-back : Symbols 8 slip → turned from (turned to slip) ≡ slip
+  unfolding layoutIn
+  turned-back are =
+      let T = turned to slip in
+      let same : turned from T ≡ slipOf (layoutOf from) m r k (pointsIn slip) (rowIn slip) = again from T numbers-kept points-kept row-kept in
+      same ∙ rw (← t .edition) (slip-read-whole slip are longest longest (t .readable))
+
+-- ---- the calls
+
+-- DONE EXACTLY THERE, with room for the result
+module _ (from to : ℕ) (known : isEdition from ≡ true) (slip bytes : List ℕ) where
+  pub turn-done : Turnable from to slip → length (turned to slip) ≤ length bytes → {a : Answer} {bytes′ : List ℕ} → Turned from to slip bytes a bytes′
+      → (a ≡ Done (length (turned to slip))) × (take (length (turned to slip)) bytes′ ≡ turned to slip)
+  unfolding answer kept
+  turn-done t room {a} {bytes′} x =
+      let v = turn-fine from to slip (length bytes) known t room in
+      let b : bytes′ ≡ front (turned to slip) bytes = x .leaves ∙ rw v in
+      (x .answers ∙ rw v, ap (take (length (turned to slip))) b ∙ take-front (turned to slip) bytes _ refl)
+
+  pub done-turn : (d : ℕ) {bytes′ : List ℕ} → Turned from to slip bytes (Done d) bytes′ → Turnable from to slip × (length (turned to slip) ≤ length bytes)
+  done-turn d x = turn-known from to slip (length bytes) (answer-done _ _ d (sym (x .answers)))
+
+-- OLD TO NEW on every readable slip of edition 1
+pub old-new : (slip : List ℕ) → editionIn slip ≡ 1 → readVerdict slip longest longest ≡ Fine → Turnable 1 2 slip
+unfolding layoutOf
+old-new slip e f = record { edition = e; readable = f; short = read-sound slip longest longest f .numbers .row-top }
+
+-- NEW TO OLD exactly where n is at most 128
+pub new-old : (slip : List ℕ) → editionIn slip ≡ 2 → readVerdict slip longest longest ≡ Fine → depthIn slip * countIn slip ≤ 128 → Turnable 2 1 slip
+unfolding layoutOf
+new-old slip e f l = record { edition = e; readable = f; short = l }
+
+pub new-old-only : (slip : List ℕ) → Turnable 2 1 slip → depthIn slip * countIn slip ≤ 128
+unfolding layoutOf
+new-old-only slip t = t .short
+
+-- OVER AND BACK, from either edition
+pub over-back : (from to : ℕ) → isEdition from ≡ true → isEdition to ≡ true → (slip : List ℕ) → Symbols 8 slip
+    → (bytes bytes′ : List ℕ) (d : ℕ) → Turned from to slip bytes (Done d) bytes′
+    → (back back′ : List ℕ) (b : Answer) → length slip ≤ length back → Turned to from (take d bytes′) back b back′
+    → (b ≡ Done (length slip)) × (take (length slip) back′ ≡ slip)
+over-back from to known wanted slip are bytes bytes′ d x back back′ b room y =
+    let q = done-turn from to known slip bytes d x in
+    let t = q .0 in
+    let o = turn-done from to known slip bytes t (q .1) x in
+    let e : d ≡ length (turned to slip) = done-same d _ (o .0) in
+    let T : take d bytes′ ≡ turned to slip = rw e (o .1) in
+    let same = turned-back from to wanted slip t are in
+    rw same at (turn-done to from wanted (turned to slip) back (turnable-back from to wanted slip t) (rw same room) (rw T at y))
+  where
+    done-same : (d e : ℕ) → Done d ≡ Done e → d ≡ e
+    done-same d e q = cc

@@ -45,15 +45,7 @@ fn turn(from: usize, to: usize, slip: &[u8], bytes: &mut [u8]) -> Answer
     if layout.top < n {
         return Answer::Refused(Refusal::RowLong);
     }
-    slip::slip_write(
-        to,
-        found.m,
-        found.r,
-        k,
-        &points[..count],
-        &row[..n],
-        bytes,
-    )
+    slip::slip_write(to, found.m, found.r, k, &points[..count], &row[..n], bytes)
 }
 
 // A slip of edition 1 as one of edition 2. Done with its size.
