@@ -1,16 +1,15 @@
 -- The ways out of the call that turns a slip.
 use Prim.Native.Nat.{ℕ, _+_, _*_, _<_, _≤_}
 use mathlib.Core.Bool.{Bool, true, false, not}
-use mathlib.Core.Path.{_≡_, refl, ap, sym, _∙_}
+use mathlib.Core.Path.{_≡_, refl, sym, _∙_}
 use mathlib.Core.List.{List}
-use native.Mathlib.Omega.{arith}
 use lib.Dec.{eqb, ltb}
 use lib.ListN.{length, take}
 use borrow.Author.Tests.{lt-ltb, le-ltb, eq-eqb, eqb-true, not-false}
 use Rattle.defs.specs.Refusal.{refuse, andThen, answer, kept}
 use Rattle.defs.specs.Limits.{longest, Within}
 use Rattle.defs.specs.Slip.{isEdition, layoutOf, slipSize, slipOf, editionIn, widthIn, depthIn, countIn, dimensionIn, pointsIn, rowIn}
-use Rattle.defs.specs.Write.{front, writeVerdict, Written}
+use Rattle.defs.specs.Write.{writeVerdict, Written}
 use Rattle.defs.specs.Read.{firstVerdictOf, firstVerdict, headVerdict, readVerdict, reading, Read}
 use Rattle.defs.specs.Turn.{turned, turnVerdict, Turned}
 use Rattle.defs.specs.declared.Layout.{Layout}

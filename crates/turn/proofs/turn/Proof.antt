@@ -5,7 +5,6 @@ use native.Mathlib.Omega.{arith}
 use lib.ListN.{length}
 use lib.Seq.{length-take-le}
 use borrow.Author.Needs.{needs}
-use Rattle.defs.specs.Limits.{longest}
 use Rattle.defs.specs.declared.Verdict.the-variants.{Fine}
 use Rattle.turn.specs.Edition.{editionVerdict}
 use Rattle.turn.proofs.Turning.{refused-edition, turned-refused, turned-no, row-small, points-lent, row-lent, turned-long, turned-written}
