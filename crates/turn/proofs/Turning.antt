@@ -3,12 +3,13 @@ use Prim.Native.Nat.{ℕ, _+_, _*_, _<_, _≤_}
 use mathlib.Core.Bool.{Bool, true, false, not}
 use mathlib.Core.Path.{_≡_, refl, sym, _∙_}
 use mathlib.Core.List.{List}
+use native.Mathlib.Omega.{arith}
 use lib.Dec.{eqb, ltb}
 use lib.ListN.{length, take}
 use borrow.Author.Tests.{lt-ltb, le-ltb, eq-eqb, eqb-true, not-false}
 use Rattle.defs.specs.Refusal.{refuse, andThen, answer, kept}
 use Rattle.defs.specs.Limits.{longest, Within}
-use Rattle.defs.specs.Slip.{isEdition, layoutOf, slipSize, slipOf, editionIn, widthIn, depthIn, countIn, dimensionIn, pointsIn, rowIn}
+use Rattle.defs.specs.Slip.{isEdition, layoutOf, slipSize, longestSlip, slipOf, editionIn, widthIn, depthIn, countIn, dimensionIn, pointsIn, rowIn}
 use Rattle.defs.specs.Write.{writeVerdict, Written}
 use Rattle.defs.specs.Read.{firstVerdictOf, firstVerdict, headVerdict, readVerdict, reading, Read}
 use Rattle.defs.specs.Turn.{turned, turnVerdict, Turned}
@@ -21,9 +22,10 @@ use Rattle.defs.specs.declared.Answer.{Answer}
 use Rattle.defs.specs.declared.Answer.the-variants.{Done, Refused as No}
 use Rattle.defs.specs.declared.SlipRead.{SlipRead}
 use Rattle.theory.proofs.Place.{length-tab}
-use Rattle.theory.proofs.Limits.{limits-within}
+use Rattle.theory.proofs.Limits.{limits-within, count-small}
 use Rattle.theory.proofs.Checks.{symbols-fine}
 use Rattle.theory.proofs.Verdict.{refuse-fine}
+use Rattle.slip.proofs.Layouts.{laid, size-top}
 use Rattle.slip.proofs.Reader.{one-edition}
 use Rattle.slip.proofs.Taken.{limits, read-sound, length-points, length-row, row-low}
 use Rattle.slip.proofs.Answered.{read-no, read-fine, read-numbers, points-in, row-in, points-fit, row-fits}
@@ -43,6 +45,21 @@ module _ (from : ℕ) (slip : List ℕ) where
   pub this-one : 3 ≤ length slip → (e : ℕ) → e ≡ editionIn slip → eqb from e ≡ true → Fine ≡ editionVerdict from slip
   unfolding editionVerdict refuse
   this-one l e i n = rw (le-ltb (length slip) 3 l, ← i, n)
+
+-- ---- the size
+
+length-turned : (to : ℕ) (slip : List ℕ) → length (turned to slip) ≡ slipSize (layoutOf to) (widthIn slip) (length (pointsIn slip) + length (rowIn slip))
+unfolding turned slipOf
+length-turned to slip = length-tab _ _
+
+-- a slip that is read becomes one that is no longer than the longest
+pub turned-top : (to : ℕ) (slip : List ℕ) → readVerdict slip longest longest ≡ Fine → length (turned to slip) ≤ longestSlip
+turned-top to slip e =
+    let n = read-sound slip longest longest e .numbers in
+    rw (length-turned to slip)
+    (size-top (layoutOf to) (laid to) (widthIn slip) _ (n .width) (omega (arith, length-points slip, length-row slip, count-small n, n .row-top)))
+
+-- ---- the checks
 
 -- two checks, and what stands behind them
 two-checks : (a b : Bool) (x y : Refusal) (v : Verdict) → andThen (refuse a x (refuse b y Fine)) v ≡ refuse a x (refuse b y v)
@@ -95,10 +112,6 @@ module _ (from to : ℕ) (slip : List ℕ) (size : ℕ) where
         abbrev written : Verdict
         written = writeVerdict to (widthIn slip) (depthIn slip) (dimensionIn slip) (pointsIn slip) (rowIn slip) size
 
-        pub length-turned : length (turned to slip) ≡ slipSize (layoutOf to) (widthIn slip) (length (pointsIn slip) + length (rowIn slip))
-        unfolding turned slipOf
-        length-turned = length-tab _ _
-
         within : Within (layoutOf to .top) (widthIn slip) (depthIn slip) (dimensionIn slip) (pointsIn slip)
         within = limits-within _ _ _ _ (pointsIn slip) (limits slip longest longest e) (rw (length-points slip) l)
 
@@ -111,7 +124,7 @@ module _ (from to : ℕ) (slip : List ℕ) (size : ℕ) where
             by-room
             ∙ rw (
               le-ltb (layoutOf to .top) (depthIn slip * countIn slip) l,
-              length-turned,
+              length-turned to slip,
               wanted,
               within,
               eq-eqb (length (rowIn slip)) (depthIn slip * length (pointsIn slip)) row-is,
@@ -168,4 +181,4 @@ module _ {slip points row points′ row′ : List ℕ} {s : SlipRead} (points-ro
           let l′ : depthIn slip * countIn slip ≤ layoutOf to .top = rw (laid, is) at l in
           let x′ : Written to (widthIn slip) (depthIn slip) (dimensionIn slip) (pointsIn slip) (rowIn slip) bytes a bytes′ = rw (is, points-in took d done, row-in took d done) at x in
           let e = by-writer from to slip (length bytes) known f fine wanted l′ in
-          record { answers = x′ .answers ∙ rw (e, length-turned from to slip (length bytes) known f fine wanted l′); leaves = x′ .leaves ∙ rw e }
+          record { answers = x′ .answers ∙ rw (e, length-turned to slip); leaves = x′ .leaves ∙ rw e }
