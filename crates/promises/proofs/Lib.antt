@@ -5,6 +5,7 @@ pub mod Write
 pub mod Taken
 pub mod RoundTrip
 pub mod Turn
+pub mod TurnRefusals
 pub mod Slip
 pub mod Header
 pub mod Enough

@@ -1,6 +1,6 @@
 -- A slip turned into one of the other edition: one outcome, when it is done, what stays, and over and back.
-use Prim.Native.Nat.{ℕ, _*_, _≤_}
-use mathlib.Core.Bool.{true}
+use Prim.Native.Nat.{ℕ, _+_, _*_, _/_, _≤_}
+use mathlib.Core.Bool.{true, false, _||_}
 use mathlib.Core.Path.{_≡_, refl, ap, sym, _∙_}
 use mathlib.Core.List.{List}
 use native.Mathlib.Omega.{arith}
@@ -9,23 +9,27 @@ use lib.ListN.{length, take}
 use borrow.Author.Tests.{ltb-false, le-ltb, eqb-true, not-false}
 use Rattle.defs.specs.Place.{Symbols}
 use Rattle.defs.specs.Refusal.{refuse, andThen, answer, kept}
-use Rattle.defs.specs.Limits.{longest, Within}
-use Rattle.defs.specs.Slip.{isEdition, layoutOf, slipOf, editionIn, layoutIn, widthIn, depthIn, countIn, dimensionIn, pointsIn, rowIn}
+use Rattle.defs.specs.Limits.{longest, firstTwice, Within}
+use Rattle.defs.specs.Slip.{isEdition, layoutOf, headBits, slipSize, slipOf, editionIn, layoutIn, widthIn, depthIn, countIn, dimensionIn, sizeIn, pointsIn, rowIn}
 use Rattle.defs.specs.Write.{front}
-use Rattle.defs.specs.Read.{firstVerdictOf, firstVerdict, headVerdict, readVerdict}
+use Rattle.defs.specs.Read.{firstVerdictOf, headVerdict, readVerdict, Read}
 use Rattle.defs.specs.Decode.{Decoded}
 use Rattle.defs.specs.Line.{Line, refused, read}
 use Rattle.defs.specs.Turn.{turned, turnVerdict, Turned}
 use Rattle.defs.specs.declared.Refusal.{Refusal}
+use Rattle.defs.specs.declared.Refusal.the-variants.{Length}
 use Rattle.defs.specs.declared.Verdict.the-variants.{Fine}
 use Rattle.defs.specs.declared.Answer.{Answer}
 use Rattle.defs.specs.declared.Answer.the-variants.{Done, Refused as No}
+use Rattle.defs.specs.declared.SlipRead.{SlipRead}
 use Rattle.theory.proofs.Limits.{numbers-top, count-small, limits-within}
 use Rattle.theory.proofs.Verdict.{apart, refuse-fine, then-fine, answer-done, kept-refused}
 use Rattle.slip.proofs.Front.{take-front}
-use Rattle.slip.proofs.Reader.{laid-in, one-edition, read-checked}
+use Rattle.slip.proofs.Reader.{laid-in, one-edition, sound, read-checked, read-clean, read-once}
+use Rattle.slip.proofs.Answered.{read-fine}
 use Rattle.slip.proofs.Canonical.{slip-read-whole}
 use Rattle.slip.proofs.Taken.{limits, read-sound, length-points, length-row, row-low}
+use Rattle.turn.proofs.Turning.{length-turned, by-room}
 use Rattle.promises.proofs.RoundTrip.{edition-back, head, heads-back, points-back, row-back, verdict-back}
 
 pub turned-same : {from to : ℕ} {slip bytes : List ℕ} {a b : Answer} {s t : List ℕ} → Turned from to slip bytes a s → Turned from to slip bytes b t → (a ≡ b) × (s ≡ t)
@@ -39,6 +43,26 @@ pub record Turnable (from to : ℕ) (slip : List ℕ) : Type 0 where
   pub edition : editionIn slip ≡ from
   pub readable : readVerdict slip longest longest ≡ Fine
   pub short : depthIn slip * countIn slip ≤ layoutOf to .top
+
+-- in whose points and row there is room for the longest
+pub room-fine : (slip : List ℕ) → headVerdict slip ≡ Fine → ltb longest (countIn slip) || ltb longest (depthIn slip * countIn slip) ≡ false
+room-fine slip f =
+    let n = sound slip f .numbers in
+    rw (le-ltb longest (countIn slip) (count-small n), le-ltb longest (depthIn slip * countIn slip) (n .row-top))
+
+-- READABLE IS WHAT THE READER TAKES, into whatever buffers
+pub read-readable : {slip points row : List ℕ} {s : SlipRead} {points′ row′ : List ℕ} → Read slip points row s points′ row′ → (d : ℕ) → s .answer ≡ Done d
+    → readVerdict slip longest longest ≡ Fine
+unfolding readVerdict refuse andThen
+read-readable {slip} {points} {row} x d done =
+    let e = read-fine x d done in
+    let f = read-checked slip (length points) (length row) e in
+    rw (
+      f,
+      read-clean slip (length points) (length row) e,
+      le-ltb (firstTwice (pointsIn slip)) (countIn slip) (read-once slip (length points) (length row) e),
+      room-fine slip f,
+    )
 
 module _ (from to : ℕ) (slip : List ℕ) (size : ℕ) where
   turn-known : turnVerdict from to slip size ≡ Fine → Turnable from to slip × (length (turned to slip) ≤ size)
@@ -57,16 +81,16 @@ module _ (from to : ℕ) (slip : List ℕ) (size : ℕ) where
         ltb-false size _ (e5 .0),
       )
 
+  -- only the room is left to look at
+  pub by-size : isEdition from ≡ true → Turnable from to slip → turnVerdict from to slip size ≡ refuse (ltb size (length (turned to slip))) Length Fine
+  unfolding refuse
+  by-size known t =
+      by-room from to slip size (one-edition from slip known (t .edition)) (t .readable)
+      ∙ rw (le-ltb (layoutOf to .top) (depthIn slip * countIn slip) (t .short))
+
   turn-fine : isEdition from ≡ true → Turnable from to slip → length (turned to slip) ≤ size → turnVerdict from to slip size ≡ Fine
-  unfolding turnVerdict headVerdict andThen refuse
-  turn-fine known t room =
-      let begins = then-fine (firstVerdict slip) _ (read-checked slip longest longest (t .readable)) .0 in
-      rw (
-        one-edition from slip known (t .edition) ∙ begins,
-        t .readable,
-        le-ltb (layoutOf to .top) (depthIn slip * countIn slip) (t .short),
-        le-ltb size (length (turned to slip)) room,
-      )
+  unfolding refuse
+  turn-fine known t room = by-size known t ∙ rw (le-ltb size (length (turned to slip)) room)
 
 -- ---- what stands in the slip that it was turned into
 
@@ -112,6 +136,14 @@ module _ (from to : ℕ) (wanted : isEdition to ≡ true) (slip : List ℕ) (t :
       let n = read-sound slip longest longest (t .readable) .numbers in
       verdict-back to wanted m r k (pointsIn slip) (rowIn slip) within (row-low slip) row-is longest longest
       (omega (arith, length-points slip, count-small n)) (omega (arith, length-row slip, n .row-top))
+
+  -- THE HEADER ALONE has another size
+  pub size-kept : length (turned to slip) + headBits (layoutOf from) / 8 ≡ length slip + headBits (layoutOf to) / 8
+  unfolding slipSize sizeIn layoutIn
+  size-kept =
+      let new : length (turned to slip) ≡ slipSize (layoutOf to) m (countIn slip + r * countIn slip) = length-turned to slip ∙ rw (length-points slip, length-row slip) in
+      let old : length slip ≡ slipSize (layoutOf from) m (countIn slip + r * countIn slip) = read-sound slip longest longest (t .readable) .size ∙ rw (t .edition) in
+      omega (arith, new, old)
 
   -- DECODE ANSWERS THE SAME
   pub decode-kept : {message depth message′ depth′ : List ℕ} {a : Answer} → Decoded m r k (pointsIn slip) (rowIn slip) message depth a message′ depth′
@@ -174,6 +206,16 @@ new-old slip e f l = record { edition = e; readable = f; short = l }
 pub new-old-only : (slip : List ℕ) → Turnable 2 1 slip → depthIn slip * countIn slip ≤ 128
 unfolding layoutOf
 new-old-only slip t = t .short
+
+-- A BYTE MORE in edition 2
+pub new-longer : (slip : List ℕ) → Turnable 1 2 slip → length (turned 2 slip) ≡ length slip + 1
+unfolding layoutOf headBits
+new-longer slip t = omega (arith, size-kept 1 2 refl slip t)
+
+-- AND A BYTE LESS in edition 1
+pub old-shorter : (slip : List ℕ) → Turnable 2 1 slip → length (turned 1 slip) + 1 ≡ length slip
+unfolding layoutOf headBits
+old-shorter slip t = omega (arith, size-kept 2 1 refl slip t)
 
 -- OVER AND BACK, from either edition
 pub over-back : (from to : ℕ) → isEdition from ≡ true → isEdition to ≡ true → (slip : List ℕ) → Symbols 8 slip

@@ -46,9 +46,16 @@ module _ (from : ℕ) (slip : List ℕ) where
   unfolding editionVerdict refuse
   this-one l e i n = rw (le-ltb (length slip) 3 l, ← i, n)
 
+  -- the first checks of such a slip are the reader's
+  pub own-first : isEdition from ≡ true → editionVerdict from slip ≡ Fine → firstVerdictOf (eqb from) slip ≡ firstVerdict slip
+  unfolding editionVerdict
+  own-first known f =
+      let is = not-false _ (refuse-fine _ _ _ (refuse-fine (ltb (length slip) 3) _ _ f .1) .0) in
+      one-edition from slip known (sym (eqb-true from (editionIn slip) is))
+
 -- ---- the size
 
-length-turned : (to : ℕ) (slip : List ℕ) → length (turned to slip) ≡ slipSize (layoutOf to) (widthIn slip) (length (pointsIn slip) + length (rowIn slip))
+pub length-turned : (to : ℕ) (slip : List ℕ) → length (turned to slip) ≡ slipSize (layoutOf to) (widthIn slip) (length (pointsIn slip) + length (rowIn slip))
 unfolding turned slipOf
 length-turned to slip = length-tab _ _
 
@@ -77,13 +84,7 @@ module _ (from to : ℕ) (slip : List ℕ) (size : ℕ) where
   unfolding turnVerdict firstVerdictOf editionVerdict andThen
   refused-edition x e = rw (← two-checks (ltb (length slip) 3) (not (eqb from (editionIn slip))) SlipShort Edition _, e)
 
-  module _ (known : isEdition from ≡ true) (f : editionVerdict from slip ≡ Fine) where
-    own : firstVerdictOf (eqb from) slip ≡ firstVerdict slip
-    unfolding editionVerdict
-    own =
-        let is = not-false _ (refuse-fine _ _ _ (refuse-fine (ltb (length slip) 3) _ _ f .1) .0) in
-        one-edition from slip known (sym (eqb-true from (editionIn slip) is))
-
+  module _ (own : firstVerdictOf (eqb from) slip ≡ firstVerdict slip) where
     -- the reader's checks begin with those
     again : (v w : Verdict) → firstVerdict slip ≡ v → andThen v (andThen (readVerdict slip longest longest) w) ≡ andThen (readVerdict slip longest longest) w
     unfolding readVerdict headVerdict andThen
@@ -99,7 +100,7 @@ module _ (from to : ℕ) (slip : List ℕ) (size : ℕ) where
     refused-reader x e = by-reader ∙ rw e
 
     module _ (e : readVerdict slip longest longest ≡ Fine) where
-      by-room : turnVerdict from to slip size ≡ behind
+      pub by-room : turnVerdict from to slip size ≡ behind
       unfolding andThen
       by-room = by-reader ∙ rw e
 
@@ -143,9 +144,9 @@ module _ {slip points row points′ row′ : List ℕ} {s : SlipRead} (points-ro
   roomy : readVerdict slip (length points) (length row) ≡ readVerdict slip longest longest
   roomy = rw (points-room, row-room)
 
-  module _ {from to : ℕ} (bytes : List ℕ) (known : isEdition from ≡ true) (f : editionVerdict from slip ≡ Fine) where
+  module _ {from to : ℕ} (bytes : List ℕ) (own : firstVerdictOf (eqb from) slip ≡ firstVerdict slip) where
     pub turned-no : (x : Refusal) → s .answer ≡ No x → Turned from to slip bytes (No x) bytes
-    turned-no x e = turned-refused from to slip bytes x (refused-reader from to slip (length bytes) known f x (sym roomy ∙ read-no took x e))
+    turned-no x e = turned-refused from to slip bytes x (refused-reader from to slip (length bytes) own x (sym roomy ∙ read-no took x e))
 
   module _ (d : ℕ) (done : s .answer ≡ Done d) where
     fine : readVerdict slip longest longest ≡ Fine
@@ -167,12 +168,12 @@ module _ {slip points row points′ row′ : List ℕ} {s : SlipRead} (points-ro
     row-lent = rw is (row-fits took d done)
 
     -- L is the layout of the new edition
-    module _ {from to : ℕ} {bytes : List ℕ} (known : isEdition from ≡ true) (f : editionVerdict from slip ≡ Fine) (L : Layout) (laid : L ≡ layoutOf to) where
+    module _ {from to : ℕ} {bytes : List ℕ} (own : firstVerdictOf (eqb from) slip ≡ firstVerdict slip) (L : Layout) (laid : L ≡ layoutOf to) where
       pub turned-long : L .top < s .r * s .count → Turned from to slip bytes (No RowLong) bytes
       unfolding reading
       turned-long l =
           let l′ : layoutOf to .top < depthIn slip * countIn slip = rw (laid, is) at l in
-          turned-refused from to slip bytes RowLong (refused-row from to slip (length bytes) known f fine l′)
+          turned-refused from to slip bytes RowLong (refused-row from to slip (length bytes) own fine l′)
 
       pub turned-written : isEdition to ≡ true → s .r * s .count ≤ L .top → {a : Answer} {bytes′ : List ℕ}
           → Written to (s .m) (s .r) (s .k) (take (s .count) points′) (take (s .r * s .count) row′) bytes a bytes′ → Turned from to slip bytes a bytes′
@@ -180,5 +181,5 @@ module _ {slip points row points′ row′ : List ℕ} {s : SlipRead} (points-ro
       turned-written wanted l {a} {bytes′} x =
           let l′ : depthIn slip * countIn slip ≤ layoutOf to .top = rw (laid, is) at l in
           let x′ : Written to (widthIn slip) (depthIn slip) (dimensionIn slip) (pointsIn slip) (rowIn slip) bytes a bytes′ = rw (is, points-in took d done, row-in took d done) at x in
-          let e = by-writer from to slip (length bytes) known f fine wanted l′ in
+          let e = by-writer from to slip (length bytes) own fine wanted l′ in
           record { answers = x′ .answers ∙ rw (e, length-turned to slip); leaves = x′ .leaves ∙ rw e }

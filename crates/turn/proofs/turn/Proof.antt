@@ -2,12 +2,12 @@
 use Prim.Native.Nat.{_*_, _≤_}
 use mathlib.Core.Path.{_≡_, refl, sym, _∙_}
 use native.Mathlib.Omega.{arith}
+use lib.Dec.{eqb}
 use lib.ListN.{length}
 use lib.Seq.{length-take-le}
 use borrow.Author.Needs.{needs}
-use Rattle.defs.specs.declared.Verdict.the-variants.{Fine}
-use Rattle.turn.specs.Edition.{editionVerdict}
-use Rattle.turn.proofs.Turning.{refused-edition, turned-refused, turned-no, row-small, points-lent, row-lent, turned-long, turned-written}
+use Rattle.defs.specs.Read.{firstVerdictOf, firstVerdict}
+use Rattle.turn.proofs.Turning.{own-first, refused-edition, turned-refused, turned-no, row-small, points-lent, row-lent, turned-long, turned-written}
 use Rattle.turn.proofs.turn.Statement.{statement}
 use Rattle.turn.proofs.turn.Tie as tie
 
@@ -19,8 +19,8 @@ module _ (c : tie.After-enum-told) where
   abbrev start : tie.Start
   start = looked .before .before .before
 
-  right : editionVerdict (start .args .from) (start .args .slip .now) ≡ Fine
-  right = sym (looked .check-edition .ensures) ∙ c .enum-told .given .1
+  own : firstVerdictOf (eqb (start .args .from)) (start .args .slip .now) ≡ firstVerdict (start .args .slip .now)
+  own = own-first _ _ (start .pre .0) (sym (looked .check-edition .ensures) ∙ c .enum-told .given .1)
 
 -- where the slip is read
 module _ (c : tie.After-row2) where
@@ -83,7 +83,7 @@ enum-known-a c = search needs
 returns-2 : tie.Need-returns-2
 returns-2 c =
     let r = c .before .before .before in
-    turned-no refl refl (took r .slip-read .ensures) _ (start (passed r) .pre .0) (right (passed r)) _ (c .before .a .given .1)
+    turned-no refl refl (took r .slip-read .ensures) _ (own (passed r)) _ (c .before .a .given .1)
 
 enum-told-2 : tie.Need-enum-told-2
 enum-told-2 c = search needs
@@ -98,7 +98,7 @@ returns-3 : tie.Need-returns-3
 returns-3 c =
     let d = done (c .before) in
     let p = passed (read d) in
-    turned-long refl refl (took (read d) .slip-read .ensures) _ (d .enum-told2 .given .1) (start p .pre .0) (right p) _ (laid (c .before) .layout-of .ensures) (c .if1 .taken)
+    turned-long refl refl (took (read d) .slip-read .ensures) _ (d .enum-told2 .given .1) (own p) _ (laid (c .before) .layout-of .ensures) (c .if1 .taken)
 
 array-share-prefix-points : tie.Need-array-share-prefix-points
 array-share-prefix-points c = lends-points (done (c .before))
@@ -123,7 +123,7 @@ returns-4 c =
     let lent = c .before .before .before .before in
     let d = done (fits lent .before) in
     let p = passed (read d) in
-    turned-written refl refl (took (read d) .slip-read .ensures) _ (d .enum-told2 .given .1) (start p .pre .0) (right p) _ (laid (fits lent .before) .layout-of .ensures)
+    turned-written refl refl (took (read d) .slip-read .ensures) _ (d .enum-told2 .given .1) (own p) _ (laid (fits lent .before) .layout-of .ensures)
     (start p .pre .1) (fits lent .if1 .left) (c .before .before .slip-write .ensures)
 
 pub turn-spec : {M : Type 1} → statement M
