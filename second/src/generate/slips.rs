@@ -108,13 +108,7 @@ pub fn written(random: &mut Random) -> Slip {
     let edition = random.pick(&EDITIONS);
     let code = codes::code(random, Sizes::MostlyShort, layout(edition).longest_row);
     Slip {
-        header: Header {
-            edition,
-            m: code.field.bits(),
-            r: code.r,
-            count: code.points.len(),
-            k: code.k,
-        },
+        header: codes::header(edition, &code),
         row: damage::received(random, &code).row,
         points: code.points,
     }
