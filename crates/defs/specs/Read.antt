@@ -1,5 +1,5 @@
 -- What the slip reader answers, and what it leaves in the points and the row, for every input.
-use Prim.Native.Nat.{ℕ, _+_, _*_, _/_}
+use Prim.Native.Nat.{ℕ, _+_, _*_}
 use mathlib.Core.Path.{_≡_}
 use mathlib.Core.Bool.{Bool, _||_, not}
 use mathlib.Core.List.{List}
@@ -7,7 +7,7 @@ use lib.Dec.{eqb, ltb}
 use lib.ListN.{length}
 use Rattle.defs.specs.Refusal.{refuse, andThen, kept}
 use Rattle.defs.specs.Limits.{numbersVerdict, firstTwice}
-use Rattle.defs.specs.Slip.{isEdition, headBits, editionIn, layoutIn, widthIn, depthIn, countIn, dimensionIn, sizeIn, pointsIn, rowIn, spareIn, fillIn}
+use Rattle.defs.specs.Slip.{isEdition, headSize, editionIn, layoutIn, widthIn, depthIn, countIn, dimensionIn, sizeIn, pointsIn, rowIn, spareIn, fillIn}
 use Rattle.defs.specs.Write.{front}
 use Rattle.defs.specs.declared.Refusal.the-variants.{PointTwice, Length, SlipShort, Edition, SlipLong, SlipBits}
 use Rattle.defs.specs.declared.Verdict.{Verdict}
@@ -16,12 +16,12 @@ use Rattle.defs.specs.declared.Answer.the-variants.{Done, Refused as No}
 use Rattle.defs.specs.declared.SlipRead.{SlipRead}
 
 -- 10, 11, 10 for the header; 1, 3, 4; 10: the bytes begin with a slip, by its header and their length alone.
--- The reader knows these editions.
+-- The editions that a reader knows are told by a test, because another reader may know one of the two alone.
 unfoldable pub firstVerdictOf : (ℕ → Bool) → List ℕ → Verdict
 firstVerdictOf known bytes =
     refuse (ltb (length bytes) 3) SlipShort
     (refuse (not (known (editionIn bytes))) Edition
-    (refuse (ltb (length bytes) (headBits (layoutIn bytes) / 8)) SlipShort
+    (refuse (ltb (length bytes) (headSize (layoutIn bytes))) SlipShort
     (andThen (numbersVerdict (layoutIn bytes .top) (widthIn bytes) (depthIn bytes) (dimensionIn bytes) (countIn bytes))
     (refuse (ltb (length bytes) (sizeIn bytes)) SlipShort Fine))))
 

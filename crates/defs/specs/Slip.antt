@@ -32,18 +32,18 @@ unfoldable pub fieldCode : ℕ → ℕ
 fieldCode m = least (λ field. eqb (widthOf field) m) 3
 
 -- the two layouts
-abbrev pub old : Layout
-old = record { edition = 1; countbits = 7; kbits = 7; zerobits = 1; top = 128 }
+abbrev pub firstLayout : Layout
+firstLayout = record { edition = 1; countbits = 7; kbits = 7; zerobits = 1; top = 128 }
 
-abbrev pub new : Layout
-new = record { edition = 2; countbits = 8; kbits = 8; zerobits = 7; top = longest }
+abbrev pub secondLayout : Layout
+secondLayout = record { edition = 2; countbits = 8; kbits = 8; zerobits = 7; top = longest }
 
 abbrev pub isEdition : ℕ → Bool
 isEdition edition = eqb edition 1 || eqb edition 2
 
--- the layout of an edition; what is neither 1 nor 2 is refused before this is asked
+-- the layout of an edition; which one it is where the edition is neither 1 nor 2 doesn't matter, as 11 comes before
 unfoldable pub layoutOf : ℕ → Layout
-layoutOf edition = cond (eqb edition 2) new old
+layoutOf edition = cond (eqb edition 2) secondLayout firstLayout
 
 -- edition, field, r - 1, n' - 1, k - 1 and the zero bits; then the points and the row
 unfoldable pub slipBits : Layout → ℕ → ℕ → ℕ → List ℕ → List ℕ → List ℕ
@@ -55,13 +55,17 @@ slipBits L m r k points w = bits 4 (L .edition) ++ (bits 2 (fieldCode m) ++ (bit
 unfoldable pub headBits : Layout → ℕ
 headBits L = 9 + L .countbits + L .kbits + L .zerobits
 
+-- and their bytes: 3 and 4
+abbrev pub headSize : Layout → ℕ
+headSize L = headBits L / 8
+
 -- the bytes of a slip with so many points and symbols in all
 unfoldable pub slipSize : Layout → ℕ → ℕ → ℕ
-slipSize L m symbols = headBits L / 8 + (symbols * m + 7) / 8
+slipSize L m symbols = headSize L + (symbols * m + 7) / 8
 
 -- and of the longest one
 abbrev pub longestSlip : ℕ
-longestSlip = slipSize new 8 (2 * longest)
+longestSlip = slipSize secondLayout 8 (2 * longest)
 
 -- the slip: eight of these bits to a byte, 0 behind them
 unfoldable pub slipOf : Layout → ℕ → ℕ → ℕ → List ℕ → List ℕ → List ℕ

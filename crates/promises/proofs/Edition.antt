@@ -15,6 +15,7 @@ use Rattle.defs.specs.Encode.{symbolsVerdict}
 use Rattle.defs.specs.Slip.{isEdition, layoutOf, headBits, editionIn, layoutIn}
 use Rattle.defs.specs.Write.{writeVerdict, Written}
 use Rattle.defs.specs.Read.{firstVerdictOf, firstVerdict, headVerdict, readVerdict, reading, Read}
+use Rattle.defs.specs.Roll.{rollVerdict}
 use Rattle.defs.specs.declared.Refusal.{Refusal}
 use Rattle.defs.specs.declared.Refusal.the-variants.{Edition, SlipShort}
 use Rattle.defs.specs.declared.Verdict.the-variants.{Refused}
@@ -25,6 +26,7 @@ use Rattle.theory.proofs.Verdict.{or-false, answer-refused, Every, every-fine, 
 use Rattle.theory.proofs.Refusals.{numbers-every}
 use Rattle.slip.proofs.Reader.{head-first, read-head}
 use Rattle.slip.proofs.Taken.{read-sound}
+use Rattle.roll.proofs.Parts.{others-first}
 use Rattle.promises.proofs.Slip.{answered}
 use Rattle.promises.proofs.Taken.{fine, s-is}
 
@@ -79,18 +81,25 @@ first-read : (bytes : List ℕ) (x : Refusal) → firstVerdict bytes ≡ Refused
 first-read bytes x e count n = sym (read-head bytes count n x (sym (head-first bytes x e)))
 
 module _ (bytes : List ℕ) where
-  first-unknown : 3 ≤ length bytes → Neither (editionIn bytes) → firstVerdict bytes ≡ Refused Edition
+  pub first-unknown : 3 ≤ length bytes → Neither (editionIn bytes) → firstVerdict bytes ≡ Refused Edition
   unfolding firstVerdictOf refuse
   first-unknown long n = rw (le-ltb (length bytes) 3 long, unknown (editionIn bytes) n)
 
   -- 10 straight after 11: whatever else stands in the bytes
-  first-cut : editionIn bytes ≡ 2 → length bytes < 4 → firstVerdict bytes ≡ Refused SlipShort
+  pub first-cut : editionIn bytes ≡ 2 → length bytes < 4 → firstVerdict bytes ≡ Refused SlipShort
   unfolding firstVerdictOf layoutIn layoutOf headBits refuse
   first-cut e l = go (decLt (length bytes) 3)
     where
       go : Dec (length bytes < 3) → firstVerdict bytes ≡ Refused SlipShort
       go (yes s) = rw (lt-ltb (length bytes) 3 s)
       go (no s) = rw (le-ltb (length bytes) 3 (omega arith), e, lt-ltb (length bytes) 4 l)
+
+  -- and a roll that begins so is refused so
+  pub roll-unknown : 3 ≤ length bytes → Neither (editionIn bytes) → rollVerdict bytes ≡ Refused Edition
+  roll-unknown long n = sym (others-first bytes (λ e. omega arith)) ∙ first-unknown long n
+
+  pub roll-cut : 0 < length bytes → editionIn bytes ≡ 2 → length bytes < 4 → rollVerdict bytes ≡ Refused SlipShort
+  roll-cut some e l = sym (others-first bytes (λ e. omega arith)) ∙ first-cut e l
 
   abbrev Unknown : Type 0
   Unknown = (3 ≤ length bytes) × Neither (editionIn bytes)

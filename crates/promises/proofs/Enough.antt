@@ -3,18 +3,20 @@ use Prim.Native.Nat.{ℕ, _+_, _/_, _<_, _≤_}
 use mathlib.Core.Bool.{Bool, true, false, not}
 use mathlib.Core.Path.{_≡_, refl, sym, _∙_}
 use mathlib.Core.List.{List}
+use native.Mathlib.Decide.{decLt}
 use native.Mathlib.Omega.{arith}
 use lib.Dec.{ltb}
 use lib.ListN.{length, take}
-use lib.Seq.{length-take-le}
+use lib.Seq.{length-take-le, take-all}
 use borrow.Author.Tests.{lt-ltb, le-ltb}
-use Rattle.defs.specs.Refusal.{refuse, andThen}
+use Rattle.defs.specs.Refusal.{refuse, andThen, kept}
 use Rattle.defs.specs.Limits.{numbersVerdict}
 use Rattle.defs.specs.Slip.{isEdition, layoutOf, headBits, slipSize, longestSlip, editionIn, layoutIn, widthIn, depthIn, countIn, dimensionIn, sizeIn}
-use Rattle.defs.specs.Read.{firstVerdictOf, headVerdict, readVerdict}
+use Rattle.defs.specs.Read.{firstVerdictOf, headVerdict, readVerdict, reading, Read}
 use Rattle.defs.specs.declared.Refusal.the-variants.{SlipShort, Edition, SlipLong}
 use Rattle.defs.specs.declared.Verdict.{Verdict}
 use Rattle.defs.specs.declared.Verdict.the-variants.{Fine, Refused}
+use Rattle.defs.specs.declared.SlipRead.{SlipRead}
 use Rattle.theory.proofs.Verdict.{apart, refuse-fine, then-fine}
 use Rattle.slip.proofs.Reader.{numbersIn, laid-in, header-top}
 use Rattle.promises.proofs.Header.{head-kept}
@@ -74,3 +76,33 @@ long-refused bytes long count n e = refused _ _ (sym (read-long bytes long count
   where
     refused : (b : Bool) (v : Verdict) → refuse b Edition (andThen v (Refused SlipLong)) ≡ Fine → ⊥
     refused b v q = apart (cc (then-fine v (Refused SlipLong) (refuse-fine b Edition (andThen v (Refused SlipLong)) q .1) .1))
+
+-- bytes that are refused alike are read alike: answer, edition, numbers and buffers
+alike-read : (s t points row : List ℕ) (v : Verdict) → readVerdict s (length points) (length row) ≡ v → readVerdict t (length points) (length row) ≡ v
+    → (v ≡ Fine → ⊥) → {a : SlipRead} {points′ row′ : List ℕ} → Read s points row a points′ row′ → Read t points row a points′ row′
+unfolding reading kept
+alike-read s t points row Fine e f never x = absurd (never refl)
+alike-read s t points row (Refused y) e f never x = record {
+  answers = x .answers ∙ rw (e, f);
+  leaves-points = x .leaves-points ∙ rw (e, f);
+  leaves-row = x .leaves-row ∙ rw (e, f);
+}
+
+module _ (points row : List ℕ) {a : SlipRead} {points′ row′ : List ℕ} where
+  front-read : (bytes : List ℕ)
+      → (Read bytes points row a points′ row′ → Read (take enoughBytes bytes) points row a points′ row′)
+      × (Read (take enoughBytes bytes) points row a points′ row′ → Read bytes points row a points′ row′)
+  front-read bytes = go (decLt longestSlip (length bytes))
+    where
+      go : Dec (longestSlip < length bytes)
+          → (Read bytes points row a points′ row′ → Read (take enoughBytes bytes) points row a points′ row′)
+          × (Read (take enoughBytes bytes) points row a points′ row′ → Read bytes points row a points′ row′)
+      go (yes l) =
+          let same = enough bytes l (length points) (length row) in
+          let never = long-refused bytes l (length points) (length row) in
+          (alike-read _ _ points row _ refl same never, alike-read _ _ points row _ same refl never)
+      go (no l) = rw (take-all enoughBytes bytes (omega arith)) (λ x. x, λ x. x)
+
+  -- THE FIRST 485 BYTES DECIDE THE READER'S ANSWER, and what it leaves in its buffers
+  pub read-decided : (s t : List ℕ) → take enoughBytes s ≡ take enoughBytes t → Read s points row a points′ row′ → Read t points row a points′ row′
+  read-decided s t e x = front-read t .1 (rw e at (front-read s .0 x))

@@ -1,10 +1,11 @@
 -- The first program, which knows edition 1 alone, refuses a slip of edition 2 with 11 and shows no row.
 use Prim.Native.Nat.{ℕ, _+_, _*_, _/_, _≤_}
 use mathlib.Core.Bool.{Bool, true, false, not}
-use mathlib.Core.Path.{_≡_, refl, _∙_}
+use mathlib.Core.Path.{_≡_, refl, sym, _∙_}
 use mathlib.Core.List.{List, [], _∷_}
 use lib.Dec.{eqb, ltb}
-use lib.ListN.{length, take}
+use native.Mathlib.Omega.{arith}
+use lib.ListN.{length, take, drop, length-take, take-append-drop}
 use borrow.Author.Tests.{le-ltb, eqb-true}
 use Rattle.defs.specs.Refusal.{refuse, andThen, kept}
 use Rattle.defs.specs.Limits.{numbersVerdict}
@@ -18,6 +19,7 @@ use Rattle.defs.specs.declared.Verdict.{Verdict}
 use Rattle.defs.specs.declared.Verdict.the-variants.{Fine, Refused}
 use Rattle.defs.specs.declared.Answer.the-variants.{Done, Refused as No}
 use Rattle.theory.proofs.Verdict.{apart}
+use Rattle.promises.proofs.Header.{edition-front}
 use Rattle.promises.proofs.Roll.{alone}
 use Rattle.promises.proofs.RoundTrip.{written-edition, written-whole}
 
@@ -94,7 +96,12 @@ module _ (bytes : List ℕ) (long : 3 ≤ length bytes) (e : editionIn bytes ≡
         q ∙ rw x-is
     first-line Row text (read e row) = absurd (apart (cc (e, first-refused)))
 
--- so whatever the writer makes of edition 2
-pub made-refused : (m r k d : ℕ) (points w bytes bytes′ : List ℕ) → Written 2 m r k points w bytes (Done d) bytes′ → wasVerdict (take d bytes′) ≡ Refused Edition
-made-refused m r k d points w bytes bytes′ t =
-    was-refused (take d bytes′) (alone (take d bytes′) [] (written-whole 2 m r k d points w bytes bytes′ t) .long) (written-edition 2 m r k d points w bytes bytes′ t)
+-- so whatever the writer makes of edition 2, and whatever part of it from the front, of 3 bytes or more, the first program took in
+pub made-refused : (m r k d : ℕ) (points w bytes bytes′ : List ℕ) → Written 2 m r k points w bytes (Done d) bytes′
+    → (n : ℕ) → 3 ≤ n → wasVerdict (take n (take d bytes′)) ≡ Refused Edition
+made-refused m r k d points w bytes bytes′ t n some =
+    let slip = take d bytes′ in
+    let whole = alone slip [] (written-whole 2 m r k d points w bytes bytes′ t) .long in
+    let long : 3 ≤ length (take n slip) = omega (arith, length-take n slip) in
+    let edition : editionIn slip ≡ editionIn (take n slip) = rw (take-append-drop n slip) at (edition-front (take n slip) (drop n slip) (omega arith)) in
+    was-refused (take n slip) long (sym edition ∙ written-edition 2 m r k d points w bytes bytes′ t)

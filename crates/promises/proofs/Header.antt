@@ -1,5 +1,5 @@
 -- The header has 3 bytes in edition 1 and 4 in edition 2: what stands behind it changes none of its numbers.
-use Prim.Native.Nat.{ℕ, _+_, _*_, _/_, _≤_}
+use Prim.Native.Nat.{ℕ, _+_, _*_, _/_, _<_, _≤_}
 use mathlib.Core.Path.{_≡_, refl, ap, sym, _∙_}
 use mathlib.Core.List.{List, [], _∷_, _++_, append-assoc}
 use native.Mathlib.Omega.{arith}
@@ -61,6 +61,10 @@ fields-head a b same =
 module _ (s t : List ℕ) where
   field-front : (v p : ℕ) → p + v ≤ 8 * length s → numberAt v p (allBits 8 (s ++ t)) ≡ numberAt v p (allBits 8 s)
   field-front v p l = rw (all-bits-append 8 s t) (number-front v p (allBits 8 s) (allBits 8 t) (omega (arith, length-all-bits 8 s)))
+
+  pub edition-front : 0 < length s → editionIn (s ++ t) ≡ editionIn s
+  unfolding editionIn
+  edition-front some = field-front 4 0 (omega arith)
 
   pub head-front : headBytes s ≤ length s → SameHead (s ++ t) s
   unfolding headBits

@@ -34,7 +34,7 @@ fitting L laid m r k count e =
     }
 
 -- a field has two bits
-pub field-below : (m : ℕ) → fieldCode m < 4
+field-below : (m : ℕ) → fieldCode m < 4
 unfolding fieldCode
 field-below m = omega (arith, least-le (λ field. eqb (widthOf field) m) 3)
 

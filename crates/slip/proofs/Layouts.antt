@@ -16,9 +16,8 @@ use Rattle.theory.proofs.Width.{width-top}
 use Rattle.slip.specs.Laid.{Laid}
 
 pub laid : (edition : ℕ) → Laid (layoutOf edition)
-unfolding layoutOf headBits
+unfolding headBits
 laid e = record {
-  own = by-layout (λ L. layoutOf (L .edition) ≡ L) refl refl e;
   edition-low = by-layout (λ L. L .edition < 16) (omega arith) (omega arith) e;
   count-narrow = by-layout (λ L. L .countbits ≤ 8) (omega arith) (omega arith) e;
   k-narrow = by-layout (λ L. L .kbits ≤ 8) (omega arith) (omega arith) e;

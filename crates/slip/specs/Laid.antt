@@ -2,11 +2,10 @@
 use Prim.Native.Nat.{_*_, _/_, _^_, _<_, _≤_}
 use mathlib.Core.Path.{_≡_}
 use Rattle.defs.specs.Limits.{longest}
-use Rattle.defs.specs.Slip.{headBits, layoutOf}
+use Rattle.defs.specs.Slip.{headBits}
 use Rattle.defs.specs.declared.Layout.{Layout}
 
 pub record Laid (L : Layout) : Type 0 where
-  pub own : layoutOf (L .edition) ≡ L
   pub edition-low : L .edition < 16
   pub count-narrow : L .countbits ≤ 8
   pub k-narrow : L .kbits ≤ 8

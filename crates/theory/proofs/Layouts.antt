@@ -4,14 +4,14 @@ use mathlib.Core.Bool.{Bool, true, false, cond}
 use native.Mathlib.Omega.{arith}
 use lib.Dec.{eqb}
 use Rattle.defs.specs.Limits.{longest}
-use Rattle.defs.specs.Slip.{old, new, layoutOf}
+use Rattle.defs.specs.Slip.{firstLayout, secondLayout, layoutOf}
 use Rattle.defs.specs.declared.Layout.{Layout}
 
-pub by-layout : (P : Layout → Type 0) → P old → P new → (edition : ℕ) → P (layoutOf edition)
+pub by-layout : (P : Layout → Type 0) → P firstLayout → P secondLayout → (edition : ℕ) → P (layoutOf edition)
 unfolding layoutOf
 by-layout P p p′ edition = either (eqb edition 2)
   where
-    either : (b : Bool) → P (cond b new old)
+    either : (b : Bool) → P (cond b secondLayout firstLayout)
     either true = p′
     either false = p
 

@@ -1,4 +1,4 @@
-//! Every call has room on the stack of a small thread, and calls from several threads do not meet.
+//! The calls that work in long buffers have room on the stack of a small thread, and calls from several threads do not meet.
 
 use plq::{decode, encode, line, slip_read, slip_write, Code, MAX_LINE, MAX_ROW, MAX_SLIP};
 use std::thread;

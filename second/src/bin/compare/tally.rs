@@ -115,7 +115,17 @@ impl Tally {
             let (family, which) = what.words();
             (met < least).then(|| format!("{family}: {which} met {met} times, not {least}"))
         };
-        quotas().into_iter().filter_map(complaint).collect()
+        let mut missing: Vec<String> = quotas().into_iter().filter_map(complaint).collect();
+        missing.extend(Kind::ALL.into_iter().filter_map(|kind| self.uneven(kind)));
+        missing
+    }
+
+    /// A complaint where a call met one edition more often than the other, by more than a tenth.
+    fn uneven(&self, kind: Kind) -> Option<String> {
+        let met = |of: Of| self.met.get(&What::CallOf(kind, of)).copied().unwrap_or(0);
+        let (one, two) = (met(Of::One), met(Of::Two));
+        let is_even = one * 10 >= two * 9 && two * 10 >= one * 9;
+        (!is_even).then(|| format!("{kind:?}: edition 1 met {one} times, edition 2 {two} times"))
     }
 }
 
