@@ -1,6 +1,6 @@
 //! Random codes that pass every check: all fields, all depths, all sizes.
 
-use crate::call::RawCode;
+use crate::call::{Header, RawCode};
 use crate::random::Random;
 use crate::reference::code::{Code, DEEPEST};
 
@@ -54,6 +54,17 @@ pub fn raw(code: &Code) -> RawCode {
         r: code.r,
         k: code.k,
         points: code.points.clone(),
+    }
+}
+
+/// What a slip of this code says in its header.
+pub fn header(edition: usize, code: &Code) -> Header {
+    Header {
+        edition,
+        m: code.field.bits(),
+        r: code.r,
+        count: code.points.len(),
+        k: code.k,
     }
 }
 

@@ -7,7 +7,7 @@ pub mod header;
 pub mod rolls;
 pub mod slips;
 
-use crate::call::{Call, Header, Kind, RawCode};
+use crate::call::{Call, Kind, RawCode};
 use crate::random::Random;
 use crate::reference::code::{DEEPEST, LONGEST_ROW};
 use crate::reference::{line, slip};
@@ -140,13 +140,7 @@ fn fine_write(random: &mut Random) -> Made {
     let edition = random.pick(&EDITIONS);
     let code = codes::code(random, Sizes::Even, layout(edition).longest_row);
     let row = random.symbols(code.row_length(), code.field.size());
-    let size = header::size(Header {
-        edition,
-        m: code.field.bits(),
-        r: code.r,
-        count: code.points.len(),
-        k: code.k,
-    });
+    let size = header::size(codes::header(edition, &code));
     let room = roomy(random, size);
     Made {
         call: Call::slip_write(edition, codes::raw(&code), row, random.bytes(room)),

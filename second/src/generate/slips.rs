@@ -122,13 +122,7 @@ pub fn written(random: &mut Random) -> Slip {
 fn written_in(random: &mut Random, edition: usize) -> Slip {
     let code = codes::code(random, Sizes::MostlyShort, layout(edition).longest_row);
     Slip {
-        header: Header {
-            edition,
-            m: code.field.bits(),
-            r: code.r,
-            count: code.points.len(),
-            k: code.k,
-        },
+        header: codes::header(edition, &code),
         row: damage::received(random, &code).row,
         points: code.points,
     }
