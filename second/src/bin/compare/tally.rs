@@ -125,8 +125,12 @@ impl Tally {
         missing
     }
 
-    /// A complaint where a call met one edition more often than the other, by more than a tenth.
+    /// A complaint where a call met one edition more often than the other, by more than a tenth. A call that turns slips of one
+    /// edition meets that one.
     fn uneven(&self, kind: Kind) -> Option<String> {
+        if kind.turns().is_some() {
+            return None;
+        }
         let met = |of: Of| self.met.get(&What::CallOf(kind, of)).copied().unwrap_or(0);
         let (one, two) = (met(Of::One), met(Of::Two));
         let is_even = one * 10 >= two * 9 && two * 10 >= one * 9;
