@@ -6,8 +6,8 @@
 source "$(dirname "$0")/common.bash"
 archive=target/staticlib/libplq.a
 below_data=968     # 952 and a constant of 16
-below_code=48385   # 46,385 and a slack of 2,000
-below_encoder=2112 # 2,050 and a slack of 62
+below_code=48609   # 46,609 and a slack of 2,000
+below_encoder=1996 # 1,934 and a slack of 62
 
 # weighed FILE: its sections and their sizes
 weighed() { size -A "$1" >"$dir/sections" || fail "size failed on $1"; }

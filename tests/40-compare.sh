@@ -13,5 +13,5 @@ esac
 in_second run --bin compare -- 1000 >"$dir/small" 2>&1 </dev/null
 [ $? -eq 4 ] || fail "a small run ends with another status: $(cat "$dir/small")"
 grep -q '^compare: 1000 cases agree$' "$dir/small" || fail "a small run does not say that it agrees"
-grep -q '^compare: a slip for line: met [0-9]* times, not [0-9]*$' "$dir/small" || fail "a small run names no quota"
+grep -q '^compare: calls: line met [0-9]* times, not [0-9]*$' "$dir/small" || fail "a small run names no quota"
 ! grep -q 'differs' "$dir/small" || fail "a small run speaks of a difference"

@@ -43,6 +43,11 @@ run < <(example; example); expect 'two slips' '12 0'
 run < <(printf '\020\203\007\033\163\270'); expect 'the example with its spare bit set' '13 0'
 run < <(printf '\020\000\000\020'); expect 'the smallest slip' '0 0 | 1 | 0'
 run < <(printf '\020\000\000\021'); expect 'the smallest slip with a bit of its fill set' '13 0'
+run < <(printf '\040\201\201\200\033\163\270'); expect 'the example in edition 2' "$line"
+run < <(printf '\040\201\201\201\033\163\270'); expect 'the example in edition 2 with a zero bit set' '13 0'
+run < <(printf '\040\201\201'); expect 'three bytes of edition 2' '10 0'
+run < <(printf '\040\000\000\000\020'); expect 'the smallest slip of edition 2' '0 0 | 1 | 0'
+run < <(printf '\060\000\000\000\020'); expect 'edition 3' '11 0'
 run < <(printf 'no slip at all'); expect 'noise' '11 0'
 run < <(printf '\035\377\000noise'); expect 'noise with the edition of a slip' '1 0'
 run </dev/zero; expect 'endless zeros' '11 0'
@@ -50,22 +55,30 @@ run < <(yes); expect 'endless noise' '11 0'
 run < <(example; cat /dev/zero); expect 'a slip and endless zeros' '12 0'
 run < <(example | head -c 2; sleep 1; example | tail -c 4); expect 'a slip that comes in parts' "$line"
 
-# The longest slip, 259 bytes, worked out here: m 8, r 1, k 2, the points 0 to 127 and the message 5 1. Sums are bitwise, so
-# the row has 5 ^ x at the point x. All odd chunks but the first are damaged: 63, the most that can be mended (128 - 2 over 2).
+# The longest slip of each edition, worked out here: m 8, r 1, k 2, the points 0, 1, .. and the message 5 1. Sums are bitwise, so
+# the row has 5 ^ x at the point x. All odd chunks but the first are damaged, the most that can be mended: 63 is 128 - 2 over 2,
+# and 119 is 240 - 2 over 2. Headers: edition, field, r - 1, n' - 1, k - 1, zero bits
 byte() { local code; printf -v code '\\0%03o' "$1"; printf '%b' "$code"; }
-longest() {
-  local x
-  printf '\030\177\002' # 0001 10 000 1111111 0000001 0: edition, field, r - 1, n' - 1, k - 1, spare
-  for x in {0..127}; do byte "$x"; done
-  for x in {0..127}; do if damaged "$x"; then byte $((5 ^ x ^ 200)); else byte $((5 ^ x)); fi; done
-}
 damaged() { (($1 % 2 == 1 && $1 > 1)); }
-depths=$(for x in {0..127}; do if damaged "$x"; then printf ' 1'; else printf ' 0'; fi; done)
-longest >"$dir/files/longest.slip"
-[ "$(wc -c <"$dir/files/longest.slip")" -eq 259 ] || fail 'the longest slip has not 259 bytes'
-run "$dir/files/longest.slip"; expect 'the longest slip' "0 63 | 5 1 |$depths"
-run < <(longest; printf '\000'); expect 'the longest slip and a byte' '12 0'
-run < <(longest | head -c 258); expect 'the longest slip less a byte' '10 0'
+longest() { # HEADER POINTS
+  local x
+  printf '%b' "$1"
+  for ((x = 0; x < $2; x++)); do byte "$x"; done
+  for ((x = 0; x < $2; x++)); do if damaged "$x"; then byte $((5 ^ x ^ 200)); else byte $((5 ^ x)); fi; done
+}
+depths() { for ((x = 0; x < $1; x++)); do if damaged "$x"; then printf ' 1'; else printf ' 0'; fi; done; }
+# ends NAME FILE SIZE LINE: the slip has so many bytes and gives this line, and with a byte more or less it does not
+ends() {
+  [ "$(wc -c <"$2")" -eq "$3" ] || fail "$1 has not $3 bytes"
+  run "$2"; expect "$1" "$4"
+  run < <(cat "$2"; printf '\000'); expect "$1 and a byte" '12 0'
+  run < <(cat "$2" /dev/zero); expect "$1 and endless zeros" '12 0'
+  run < <(head -c -1 "$2"); expect "$1 less a byte" '10 0'
+}
+longest '\0030\0177\0002' 128 >"$dir/files/old.slip"          # 0001 10 000 1111111 0000001 0
+longest '\0050\0167\0200\0200' 240 >"$dir/files/longest.slip" # 0010 10 000 11101111 00000001 0000000
+ends 'the longest slip of edition 1' "$dir/files/old.slip" 259 "0 63 | 5 1 |$(depths 128)"
+ends 'the longest slip' "$dir/files/longest.slip" 484 "0 119 | 5 1 |$(depths 240)"
 
 # Files, from another folder and under odd names
 cd "$dir/files" || exit 2

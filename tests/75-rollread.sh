@@ -44,6 +44,14 @@ run "$rollread" < <(three; printf '\020'); expect 'noise behind' "$line"$'\n'{,,
 run "$rollread" < <(printf '\020\001\000\000'; example); expect 'a slip that is refused' '6 1'$'\n' "$line"$'\n'
 run "$rollread" < <(printf '\020\000\000\021\020\203\007\033\163\270'; example)
 expect 'slips with bits of spare and fill set' '13 0'$'\n'{,} "$line"$'\n'
+# both editions in one roll: the example and the smallest slip in edition 2, whole, with zero bits set, and cut to three bytes
+newer() { printf '\040\201\201\200\033\163\270'; }
+run "$rollread" < <(example; newer; printf '\040\000\000\000\020'; example)
+expect 'both editions' "$line"$'\n'{,} '0 0 | 1 | 0'$'\n' "$line"$'\n'
+run "$rollread" < <(newer; printf '\040\000\000\177\020'; newer)
+expect 'a slip with its seven zero bits set' "$line"$'\n' '13 0'$'\n' "$line"$'\n'
+run "$rollread" < <(newer; example; printf '\040\000\000'); expect 'three bytes of edition 2' "$line"$'\n'{,} '10 0'$'\n'
+run "$rollread" < <(newer; printf '\060\000\000'; example); expect 'edition 3' "$line"$'\n' '11 0'$'\n'
 run "$rollread" < <(example; yes); expect 'a slip and endless noise' "$line"$'\n' '11 0'$'\n'
 # the script's head gathers what comes in, so the program itself gets these too
 for reader in "$rollread" "$program"; do
@@ -99,18 +107,20 @@ head -c -1 "$dir/full.roll" >"$dir/cut.roll"; walks 'a buffer less a byte' "$dir
 { echo "$line"; yes '0 0 | 1 | 0' | head -n 16382; echo '10 0'; } >"$dir/lines"
 { example; head -c 65530 "$dir/full.roll"; } >"$dir/cut.roll"; walks 'a full buffer that ends within a slip' "$dir/cut.roll"
 
-# The longest slip has 259 bytes; all points of this one are 0, which is refused with 6. Behind 10 bytes the first buffer ends
-# with 258 of it, so a program that goes on with less in sight than the longest slip refuses it with 10
-{ printf '\030\177\002'; head -c 256 /dev/zero; } >"$dir/longest"
-{ cat "$dir/least"; example; repeat 600 "$dir/longest"; } >"$dir/window.roll"
-[ "$(wc -c <"$dir/window.roll")" -eq $((10 + 600 * 259)) ] || fail 'the roll of longest slips has another length'
-{ echo '0 0 | 1 | 0'; echo "$line"; yes '6 1' | head -n 600; } >"$dir/lines"; walks 'the longest slip less a byte in sight' "$dir/window.roll"
+# The longest slip has 484 bytes; all points of this one are 0, which is refused with 6. Behind 197 bytes the first buffer ends
+# with 483 of it, so a program that goes on with less in sight than the longest slip refuses it with 10
+{ printf '\050\167\200\200'; head -c 480 /dev/zero; } >"$dir/longest" # 0010 10 000 11101111 00000001 0000000
+printf '\040\000\000\000\020' >"$dir/newer"                         # the smallest slip of edition 2
+{ repeat 48 "$dir/least"; cat "$dir/newer"; repeat 300 "$dir/longest"; } >"$dir/window.roll"
+[ "$(wc -c <"$dir/window.roll")" -eq $((197 + 300 * 484)) ] || fail 'the roll of longest slips has another length'
+[ $(((65536 - 197) % 484)) -eq 483 ] || fail 'the first buffer does not end a byte before a slip does'
+{ yes '0 0 | 1 | 0' | head -n 49; yes '6 1' | head -n 300; } >"$dir/lines"; walks 'the longest slip less a byte in sight' "$dir/window.roll"
 
 # 13 MB: the longest slip, the example, and so on; then a byte too few. The program has less memory than the roll
 { cat "$dir/longest"; example; } >"$dir/pair"
-pairs=49152 # of 265 bytes
+pairs=26624 # of 490 bytes
 repeat "$pairs" "$dir/pair" | head -c -1 >"$dir/long.roll"
-[ "$(wc -c <"$dir/long.roll")" -eq $((pairs * 265 - 1)) ] || fail 'the long roll has another length'
+[ "$(wc -c <"$dir/long.roll")" -eq $((pairs * 490 - 1)) ] || fail 'the long roll has another length'
 for ((i = 0; i < pairs - 1; i++)); do printf '6 1\n%s\n' "$line"; done >"$dir/lines"
 printf '6 1\n10 0\n' >>"$dir/lines"
 (ulimit -v 8192 && "$program" <"$dir/long.roll" >"$dir/out") || fail 'a long roll: the program failed'

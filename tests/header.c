@@ -44,12 +44,14 @@ static void kept(const char *name, const uint8_t *bytes, size_t count) {
     fact(name, same);
 }
 
-/* Example 3 and example 16 of the paper: a row, the row with two chunks damaged to depth 1, and its slip. */
+/* Example 3 and example 16 of the paper: a row, the row with two chunks damaged to depth 1, and its slips. In edition 2 the header
+ * is 0010 00 001 00000011 00000011 0000000. */
 static const uint8_t four[4] = {0, 1, 2, 3};
 static const uint8_t message[4] = {1, 2, 2, 1};
 static const uint8_t sent[8] = {1, 2, 0, 3, 2, 1, 2, 0};
 static const uint8_t received[8] = {1, 3, 0, 3, 2, 3, 2, 0};
 static const uint8_t six[6] = {0x10, 0x83, 0x06, 0x1B, 0x73, 0xB8};
+static const uint8_t seven[7] = {0x20, 0x81, 0x81, 0x80, 0x1B, 0x73, 0xB8};
 static const char line[] = "0 2 | 1 2 2 1 | 1 0 1 0\n";
 
 static uint8_t zeros[PLQ_MAX_ROW + 1];
@@ -64,7 +66,6 @@ static void fresh(void) {
 
 static void done_calls(void) {
     const uint8_t depths[4] = {1, 0, 1, 0};
-    uint64_t answer;
     fresh();
     answers("encode", plq_encode(2, 2, 4, four, 4, message, 4, row, 8), PLQ_DONE, 0);
     holds("the row", row, sent, 8);
@@ -73,52 +74,72 @@ static void done_calls(void) {
     holds("the message", row, message, 4);
     holds("the depths", other, depths, 4);
     answers("distance", plq_distance(2, sent, 8, received, 8), PLQ_DONE, 2);
-    answers("slip_write", plq_slip_write(2, 2, 4, four, 4, received, 8, slip, 7), PLQ_DONE, 6);
-    holds("the slip", slip, six, 6);
-    kept("behind the slip", slip + 6, 1);
-    answers("line", plq_line(six, 6, text, sizeof text), PLQ_DONE, sizeof line - 1);
-    holds("the line", text, line, sizeof line - 1);
-    kept("behind the line", text + sizeof line - 1, 1);
-    fresh();
-    answer = plq_slip_read(six, 6, row, 5, other, 9);
-    fact("slip_read", PLQ_NUMBER(answer) == PLQ_DONE && PLQ_SLIP_DETAIL(answer) == 0);
-    holds("the points read", row, four, 4);
-    kept("behind the points", row + 4, 1);
-    holds("the row read", other, received, 8);
-    kept("behind the row", other + 8, 1);
 }
 
-/* A walk from slip to slip: the six bytes, the smallest slip (0001 00 000 0000000 0000000 0, point 0, symbol 1), and the end. */
+/* The row of example 16 in both editions: written, read and printed. */
+static void both_editions(void) {
+    const uint8_t *slips[2] = {six, seven};
+    for (size_t edition = 1; edition <= 2; edition++) {
+        const uint8_t *expected = slips[edition - 1];
+        size_t size = 5 + edition;
+        uint64_t answer;
+        fresh();
+        answer = plq_slip_write(edition, 2, 2, 4, four, 4, received, 8, slip, size + 1);
+        answers("slip_write", answer, PLQ_DONE, size);
+        holds("the slip", slip, expected, size);
+        kept("behind the slip", slip + size, 1);
+        answers("line", plq_line(expected, size, text, sizeof text), PLQ_DONE, sizeof line - 1);
+        holds("the line", text, line, sizeof line - 1);
+        kept("behind the line", text + sizeof line - 1, 1);
+        answer = plq_slip_read(expected, size, row, 5, other, 9);
+        fact("slip_read", PLQ_NUMBER(answer) == PLQ_DONE && PLQ_SLIP_DETAIL(answer) == 0);
+        fact("the edition read", PLQ_EDITION(answer) == edition);
+        holds("the points read", row, four, 4);
+        kept("behind the points", row + 4, 1);
+        holds("the row read", other, received, 8);
+        kept("behind the row", other + 8, 1);
+        fresh();
+        answer = plq_slip_write(edition, 2, 2, 4, four, 4, received, 8, slip, size - 1);
+        answers("no room for the slip's last byte", answer, PLQ_BAD_LENGTH, 0);
+        kept("no room for the slip's last byte", slip, sizeof slip);
+    }
+}
+
+/* A walk from slip to slip: the six bytes, the smallest slip of either edition (0001 00 000 0000000 0000000 0 and
+ * 0010 00 000 00000000 00000000 0000000, point 0, symbol 1), the seven bytes, and the end. */
 static void a_roll(void) {
-    const uint8_t roll[11] = {0x10, 0x83, 0x06, 0x1B, 0x73, 0xB8, 0x10, 0x00, 0x00, 0x10, 0x10};
-    const size_t sizes[3] = {6, 4, 0};
+    const uint8_t roll[23] = {0x10, 0x83, 0x06, 0x1B, 0x73, 0xB8, 0x10, 0x00, 0x00, 0x10, 0x20, 0x00,
+                              0x00, 0x00, 0x10, 0x20, 0x81, 0x81, 0x80, 0x1B, 0x73, 0xB8, 0x20};
+    const size_t sizes[5] = {6, 4, 5, 7, 0};
     size_t at = 0;
     for (size_t i = 0; i < COUNT_OF(sizes); i++) {
-        uint64_t answer = plq_roll_first(roll + at, 10 - at);
+        uint64_t answer = plq_roll_first(roll + at, 22 - at);
         fact("a slip of a roll", PLQ_NUMBER(answer) == PLQ_DONE && PLQ_ROLL_SIZE(answer) == sizes[i]);
         at += PLQ_ROLL_SIZE(answer);
     }
-    fact("the end of a roll", at == 10);
-    answers("a byte behind the last slip", plq_roll_first(roll + 10, 1), PLQ_SLIP_SHORT, 0);
+    fact("the end of a roll", at == 22);
+    answers("a byte behind the last slip", plq_roll_first(roll + 22, 1), PLQ_SLIP_SHORT, 0);
 }
 
-/* A slip with four different numbers: 0001 01 001 0000010 0000100 0, points 1 2 3, symbols 10 to 15. */
+/* A slip with five different numbers: 0001 01 001 0000010 0000100 0, points 1 2 3, symbols 10 to 15. */
 static void parts_of_a_word(void) {
     const uint8_t bytes[8] = {0x14, 0x82, 0x08, 0x12, 0x3A, 0xBC, 0xDE, 0xF0};
-    const uint64_t word = UINT64_C(0x0000030405060709);
+    const uint64_t word = UINT64_C(0x0002030405060709);
     uint64_t answer = plq_slip_read(bytes, 8, row, PLQ_MAX_ROW, other, PLQ_MAX_ROW);
     fact("m of a slip", PLQ_SLIP_M(answer) == 4);
     fact("r of a slip", PLQ_SLIP_R(answer) == 2);
     fact("n' of a slip", PLQ_SLIP_COUNT(answer) == 3);
     fact("k of a slip", PLQ_SLIP_K(answer) == 5);
-    fact("the whole word", answer == UINT64_C(0x0000000503020400));
+    fact("edition of a slip", PLQ_EDITION(answer) == 1);
+    fact("the whole word", answer == UINT64_C(0x0001000503020400));
     fact("number", PLQ_NUMBER(word) == 9);
-    fact("detail", PLQ_DETAIL(word) == UINT64_C(0x0000000304050607));
+    fact("detail", PLQ_DETAIL(word) == UINT64_C(0x0000020304050607));
     fact("m", PLQ_SLIP_M(word) == 7);
     fact("r", PLQ_SLIP_R(word) == 6);
     fact("n'", PLQ_SLIP_COUNT(word) == 5);
     fact("k", PLQ_SLIP_K(word) == 4);
     fact("detail of a slip", PLQ_SLIP_DETAIL(word) == 3);
+    fact("edition", PLQ_EDITION(word) == 2);
     fact("sizes", sizeof PLQ_NUMBER(word) == sizeof(unsigned) && sizeof PLQ_DETAIL(word) == sizeof(size_t));
 }
 
@@ -158,11 +179,12 @@ static void refused_codes(void) {
 
 /* Slips that the reader refuses: too short, another edition, field code 3, five points of four, k = 2 of n = 1, short of
  * its size, a byte too long. Then the smallest slip, 0001 00 000 0000000 0000000 0 00 01 and 0000 for the fill, with a bit
- * set that holds nothing: the spare one, the first and the last of the fill. Last, repeated points with such a bit and
- * without: points 1 1 and symbols 0 0 leave no fill, points 1 2 1 and symbols 0 0 0 leave four bits. */
+ * set that holds nothing: the spare one, the first and the last of the fill. Then repeated points with such a bit and
+ * without: points 1 1 and symbols 0 0 leave no fill, points 1 2 1 and symbols 0 0 0 leave four bits. Last, the same of edition 2:
+ * 4 2 3 8 8 7 bits, and the smallest slip has one byte more. 43 chunks of 3, m 8, are n = 129, too much for edition 1 alone. */
 static const struct {
     const char *name;
-    uint8_t bytes[5];
+    uint8_t bytes[6];
     size_t count;
     enum plq_number number;
     size_t detail;
@@ -170,7 +192,9 @@ static const struct {
     size_t first;
 } refused_slips[] = {
     {"two bytes", {0x10, 0x00}, 2, PLQ_SLIP_SHORT, 0, "10 0\n", 0},
-    {"edition 2", {0x20, 0x00, 0x00}, 3, PLQ_SLIP_EDITION, 0, "11 0\n", 0},
+    {"two bytes of edition 3", {0x30, 0x00}, 2, PLQ_SLIP_SHORT, 0, "10 0\n", 0},
+    {"edition 3", {0x30, 0x00, 0x00}, 3, PLQ_SLIP_EDITION, 0, "11 0\n", 0},
+    {"edition 0", {0x00, 0x00, 0x00, 0x10}, 4, PLQ_SLIP_EDITION, 0, "11 0\n", 0},
     {"field code 3", {0x1C, 0x00, 0x00}, 3, PLQ_BAD_FIELD, 0, "1 0\n", 0},
     {"five points in a slip", {0x10, 0x04, 0x00}, 3, PLQ_BAD_POINTS, 0, "3 0\n", 0},
     {"k 2 and n 1 in a slip", {0x10, 0x00, 0x02}, 3, PLQ_BAD_K, 0, "4 0\n", 0},
@@ -183,6 +207,25 @@ static const struct {
     {"the spare bit and points 1 1", {0x10, 0x01, 0x01, 0x50}, 4, PLQ_SLIP_BITS, 0, "13 0\n", 4},
     {"a bit of the fill and points 1 2 1", {0x10, 0x02, 0x00, 0x64, 0x01}, 5, PLQ_SLIP_BITS, 0, "13 0\n", 5},
     {"points 1 2 1", {0x10, 0x02, 0x00, 0x64, 0x00}, 5, PLQ_POINT_TWICE, 2, "6 2\n", 5},
+    {"n 129 in edition 1", {0x19, 0x2A, 0x00}, 3, PLQ_BAD_POINTS, 0, "3 0\n", 0},
+    {"n 129 in edition 2, short of its size", {0x29, 0x15, 0x00, 0x00}, 4, PLQ_SLIP_SHORT, 0, "10 0\n", 0},
+    {"n 241 in edition 2", {0x28, 0x78, 0x00, 0x00}, 4, PLQ_BAD_POINTS, 0, "3 0\n", 0},
+    {"three bytes of edition 2", {0x20, 0x00, 0x00}, 3, PLQ_SLIP_SHORT, 0, "10 0\n", 0},
+    {"three bytes of edition 2, field code 3", {0x2C, 0x00, 0x00}, 3, PLQ_SLIP_SHORT, 0, "10 0\n", 0},
+    {"field code 3 in edition 2", {0x2C, 0x00, 0x00, 0x00}, 4, PLQ_BAD_FIELD, 0, "1 0\n", 0},
+    {"k 2 and n 1 in edition 2", {0x20, 0x00, 0x00, 0x80}, 4, PLQ_BAD_K, 0, "4 0\n", 0},
+    {"edition 2, short of its size", {0x20, 0x00, 0x00, 0x00}, 4, PLQ_SLIP_SHORT, 0, "10 0\n", 0},
+    {"a zero bit and a byte too long", {0x20, 0x00, 0x00, 0x01, 0x10, 0x00}, 6, PLQ_SLIP_LONG, 0, "12 0\n", 5},
+    {"zero bit 0 of seven", {0x20, 0x00, 0x00, 0x40, 0x10}, 5, PLQ_SLIP_BITS, 0, "13 0\n", 5},
+    {"zero bit 1 of seven", {0x20, 0x00, 0x00, 0x20, 0x10}, 5, PLQ_SLIP_BITS, 0, "13 0\n", 5},
+    {"zero bit 2 of seven", {0x20, 0x00, 0x00, 0x10, 0x10}, 5, PLQ_SLIP_BITS, 0, "13 0\n", 5},
+    {"zero bit 3 of seven", {0x20, 0x00, 0x00, 0x08, 0x10}, 5, PLQ_SLIP_BITS, 0, "13 0\n", 5},
+    {"zero bit 4 of seven", {0x20, 0x00, 0x00, 0x04, 0x10}, 5, PLQ_SLIP_BITS, 0, "13 0\n", 5},
+    {"zero bit 5 of seven", {0x20, 0x00, 0x00, 0x02, 0x10}, 5, PLQ_SLIP_BITS, 0, "13 0\n", 5},
+    {"zero bit 6 of seven", {0x20, 0x00, 0x00, 0x01, 0x10}, 5, PLQ_SLIP_BITS, 0, "13 0\n", 5},
+    {"a bit of the fill in edition 2", {0x20, 0x00, 0x00, 0x00, 0x11}, 5, PLQ_SLIP_BITS, 0, "13 0\n", 5},
+    {"a zero bit and points 1 1", {0x20, 0x00, 0x80, 0x01, 0x50}, 5, PLQ_SLIP_BITS, 0, "13 0\n", 5},
+    {"points 1 1 in edition 2", {0x20, 0x00, 0x80, 0x00, 0x50}, 5, PLQ_POINT_TWICE, 1, "6 1\n", 5},
 };
 
 static void refused_by_the_reader(void) {
@@ -194,9 +237,10 @@ static void refused_by_the_reader(void) {
         answer = plq_slip_read(refused_slips[i].bytes, refused_slips[i].count, row, 8, other, 8);
         fact(name, PLQ_NUMBER(answer) == refused_slips[i].number && PLQ_SLIP_DETAIL(answer) == refused_slips[i].detail);
         fact(name, PLQ_SLIP_M(answer) + PLQ_SLIP_R(answer) + PLQ_SLIP_COUNT(answer) + PLQ_SLIP_K(answer) == 0);
+        fact(name, PLQ_EDITION(answer) == 0);
         kept(name, row, 8);
         kept(name, other, 8);
-        /* a roll does not end with its first slip, and is not refused for its points, its spare bit or its fill */
+        /* a roll does not end with its first slip, and is not refused for its points, its zero bits or its fill */
         answer = plq_roll_first(refused_slips[i].bytes, refused_slips[i].count);
         if (refused_slips[i].first > 0) {
             fact(name, PLQ_NUMBER(answer) == PLQ_DONE && PLQ_ROLL_SIZE(answer) == refused_slips[i].first);
@@ -217,35 +261,66 @@ static void refused_by_the_reader(void) {
     answers("distance to depth 9", plq_distance(PLQ_MAX_DEPTH + 1, zeros, 9, zeros, 9), PLQ_BAD_DEPTH, 0);
 }
 
+/* More points and symbols than any row has: the points 0 1 2 .. and symbols 255. */
+static uint8_t points[PLQ_MAX_ROW + 1], high[PLQ_MAX_ROW + 1];
+
+static void points_and_symbols(void) {
+    for (size_t i = 0; i < COUNT_OF(points); i++) {
+        points[i] = 0xFF & i;
+        high[i] = 0xFF;
+    }
+}
+
 /* The limits are met and not passed: each call is done at the limit, and one more is refused. */
 static void limits(void) {
-    static uint8_t points[PLQ_MAX_ROW], symbols[PLQ_MAX_ROW];
-    static char longest[PLQ_MAX_LINE + 1];
-    const uint8_t eight[8] = {200, 0, 0, 0, 0, 0, 0, 0}, head[3] = {0x18, 0x7F, 0xFE};
+    const uint8_t eight[8] = {200, 0, 0, 0, 0, 0, 0, 0};
     fresh();
     answers("depth 8", plq_encode(8, PLQ_MAX_DEPTH, 1, four, 1, eight, 1, row, PLQ_MAX_DEPTH), PLQ_DONE, 0);
     holds("the chunk of depth 8", row, eight, 8);
-    memset(symbols, 255, sizeof symbols);
-    answers("128 symbols", plq_distance(8, symbols, PLQ_MAX_ROW, zeros, PLQ_MAX_ROW), PLQ_DONE, 128);
-    answers("129 symbols", plq_distance(1, zeros, PLQ_MAX_ROW + 1, zeros, PLQ_MAX_ROW + 1), PLQ_BAD_LENGTH, 0);
+    answers("240 symbols", plq_distance(8, high, PLQ_MAX_ROW, zeros, PLQ_MAX_ROW), PLQ_DONE, 240);
+    answers("241 symbols", plq_distance(1, zeros, PLQ_MAX_ROW + 1, zeros, PLQ_MAX_ROW + 1), PLQ_BAD_LENGTH, 0);
+    answers("241 points", plq_encode(8, 1, 1, points, 241, high, 1, row, PLQ_MAX_ROW), PLQ_BAD_POINTS, 0);
+}
 
-    /* k = n = 128 points: any row is that of one message, here 255 in every coefficient. */
-    for (size_t i = 0; i < PLQ_MAX_ROW; i++) {
-        points[i] = 0xFF & i;
-    }
-    answers("the longest row", plq_encode(8, 1, 128, points, 128, symbols, 128, row, 128), PLQ_DONE, 0);
-    answers("the longest slip", plq_slip_write(8, 1, 128, points, 128, row, 128, slip, PLQ_MAX_SLIP), PLQ_DONE, 259);
+/* Where the editions end, and that the writer looks at the edition before all else. */
+static void limits_of_editions(void) {
+    const uint8_t head[3] = {0x18, 0x7F, 0xFE};
+    uint64_t answer;
+    fresh();
+    answers("128 in edition 1", plq_slip_write(1, 8, 1, 128, points, 128, high, 128, slip, 259), PLQ_DONE, 259);
     holds("its header, 0001 10 000 1111111 1111111 0", slip, head, 3);
     holds("its points", slip + 3, points, 128);
+    kept("behind the longest slip of edition 1", slip + 259, 1);
+    fresh();
+    answer = plq_slip_write(1, 8, 1, 128, points, 129, high, 129, slip, PLQ_MAX_SLIP);
+    answers("129 in edition 1", answer, PLQ_BAD_POINTS, 0);
+    answer = plq_slip_write(2, 8, 1, 128, points, 241, high, 241, slip, PLQ_MAX_SLIP);
+    answers("241 in edition 2", answer, PLQ_BAD_POINTS, 0);
+    answers("edition 0, and m is 3", plq_slip_write(0, 3, 9, 0, points, 0, high, 1, slip, 0), PLQ_SLIP_EDITION, 0);
+    answers("edition 3, and m is 3", plq_slip_write(3, 3, 9, 0, points, 0, high, 1, slip, 0), PLQ_SLIP_EDITION, 0);
+    answers("edition 2^8 + 1", plq_slip_write(257, 2, 2, 4, four, 4, sent, 8, slip, 6), PLQ_SLIP_EDITION, 0);
+    kept("a slip that was not written", slip, sizeof slip);
+}
+
+/* k = n = 240 points: any row is that of one message, here 255 in every coefficient. */
+static void longest_row(void) {
+    static char longest[PLQ_MAX_LINE + 1];
+    const uint8_t head[4] = {0x28, 0x77, 0xF7, 0x80};
+    fresh();
+    answers("the longest row", plq_encode(8, 1, 240, points, 240, high, 240, row, 240), PLQ_DONE, 0);
+    answers("the longest slip", plq_slip_write(2, 8, 1, 240, points, 240, row, 240, slip, PLQ_MAX_SLIP), PLQ_DONE, 484);
+    holds("its header, 0010 10 000 11101111 11101111 0000000", slip, head, 4);
+    holds("its points", slip + 4, points, 240);
+    holds("its row", slip + 244, row, 240);
     kept("behind the longest slip", slip + PLQ_MAX_SLIP, 1);
     answers("no room for its last byte",
-            plq_slip_write(8, 1, 128, points, 128, row, 128, slip, PLQ_MAX_SLIP - 1), PLQ_BAD_LENGTH, 0);
+            plq_slip_write(2, 8, 1, 240, points, 240, row, 240, slip, PLQ_MAX_SLIP - 1), PLQ_BAD_LENGTH, 0);
     strcpy(longest, "0 0 | 255");
-    for (size_t i = 1; i < 128; i++) {
+    for (size_t i = 1; i < PLQ_MAX_ROW; i++) {
         strcat(longest, " 255");
     }
     strcat(longest, " | 0");
-    for (size_t i = 1; i < 128; i++) {
+    for (size_t i = 1; i < PLQ_MAX_ROW; i++) {
         strcat(longest, " 0");
     }
     strcat(longest, "\n");
@@ -269,9 +344,9 @@ static void null_slices(void) {
     answers("distance, no rows", plq_distance(1, NULL, 0, NULL, 0), PLQ_BAD_LENGTH, 0);
     answers("distance, no first row", plq_distance(1, NULL, 0, four, 4), PLQ_BAD_LENGTH, 0);
     answers("distance, no second row", plq_distance(1, four, 4, NULL, 0), PLQ_BAD_LENGTH, 0);
-    answers("slip_write, no points", plq_slip_write(2, 2, 4, NULL, 0, sent, 8, slip, 6), PLQ_BAD_POINTS, 0);
-    answers("slip_write, no row", plq_slip_write(2, 2, 4, four, 4, NULL, 0, slip, 6), PLQ_BAD_LENGTH, 0);
-    answers("slip_write, no bytes", plq_slip_write(2, 2, 4, four, 4, sent, 8, NULL, 0), PLQ_BAD_LENGTH, 0);
+    answers("slip_write, no points", plq_slip_write(1, 2, 2, 4, NULL, 0, sent, 8, slip, 6), PLQ_BAD_POINTS, 0);
+    answers("slip_write, no row", plq_slip_write(1, 2, 2, 4, four, 4, NULL, 0, slip, 6), PLQ_BAD_LENGTH, 0);
+    answers("slip_write, no bytes", plq_slip_write(2, 2, 2, 4, four, 4, sent, 8, NULL, 0), PLQ_BAD_LENGTH, 0);
     answer = plq_slip_read(NULL, 0, NULL, 0, NULL, 0);
     fact("slip_read, nothing", PLQ_NUMBER(answer) == PLQ_SLIP_SHORT);
     answer = plq_slip_read(six, 6, NULL, 0, other, 8);
@@ -293,12 +368,16 @@ static void null_slices(void) {
 }
 
 int main(void) {
+    points_and_symbols();
     done_calls();
+    both_editions();
     a_roll();
     parts_of_a_word();
     refused_codes();
     refused_by_the_reader();
     limits();
+    limits_of_editions();
+    longest_row();
     null_slices();
     printf("%u facts hold, %u differ\n", held, differ);
     return differ != 0;

@@ -37,6 +37,7 @@ mod c {
             b_len: usize,
         ) -> u64;
         pub fn plq_slip_write(
+            edition: usize,
             m: usize,
             r: usize,
             k: usize,
@@ -121,9 +122,10 @@ pub fn distance(r: usize, a: &[u8], b: &[u8]) -> u64 {
     unsafe { c::plq_distance(r, a.as_ptr(), a.len(), b.as_ptr(), b.len()) }
 }
 
-pub fn slip_write(code: CodeRef, row: &[u8], bytes: &mut [u8]) -> u64 {
+pub fn slip_write(edition: usize, code: CodeRef, row: &[u8], bytes: &mut [u8]) -> u64 {
     unsafe {
         c::plq_slip_write(
+            edition,
             code.m,
             code.r,
             code.k,
@@ -206,7 +208,7 @@ impl Archive {
             Kind::Encode => encode(code(numbers), second, buffer),
             Kind::Decode => decode(code(numbers), second, buffer, other),
             Kind::Distance => distance(numbers[0], first, second),
-            Kind::SlipWrite => slip_write(code(numbers), second, buffer),
+            Kind::SlipWrite => slip_write(numbers[0], code(&numbers[1..]), second, buffer),
             Kind::SlipRead => slip_read(first, buffer, other),
             Kind::Line => line(first, buffer),
             Kind::RollFirst => roll_first(first),

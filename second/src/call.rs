@@ -1,7 +1,7 @@
 //! A call with all its inputs, and its outcome: the answer and the final bytes of every buffer.
 
 /// Which call is made; the number is the one that frames use.
-#[derive(Clone, Copy, Debug, PartialEq, Eq)]
+#[derive(Clone, Copy, Debug, PartialEq, Eq, PartialOrd, Ord)]
 pub enum Kind {
     Encode = 1,
     Decode = 2,
@@ -59,7 +59,7 @@ impl Kind {
             Kind::Encode => ("encode", (3, 2, 1), &[0, 1, 2, 3, 4, 5, 6, 7, 8]),
             Kind::Decode => ("decode", (3, 2, 2), &[0, 1, 2, 3, 4, 5, 6, 7, 8, 9]),
             Kind::Distance => ("distance", (1, 2, 0), &[0, 2, 7]),
-            Kind::SlipWrite => ("slip_write", (3, 2, 1), &[0, 1, 2, 3, 4, 5, 6, 7, 8]),
+            Kind::SlipWrite => ("slip_write", (4, 2, 1), &[0, 1, 2, 3, 4, 5, 6, 7, 8, 11]),
             Kind::SlipRead => ("slip_read", (0, 1, 2), &[0, 1, 3, 4, 6, 7, 10, 11, 12, 13]),
             Kind::Line => ("line", (0, 1, 1), &[0, 7]),
             Kind::RollFirst => ("roll_first", (0, 1, 0), &[0, 1, 3, 4, 10, 11]),
@@ -67,7 +67,7 @@ impl Kind {
     }
 }
 
-/// One call: numbers (m, r, k or r alone), input slices and buffers with their first contents.
+/// One call: numbers (m, r, k, before them the edition of a slip; or r alone), input slices and buffers with their first contents.
 #[derive(Clone, Debug, PartialEq, Eq)]
 pub struct Call {
     pub kind: Kind,
@@ -103,8 +103,10 @@ impl Call {
         }
     }
 
-    pub fn slip_write(code: RawCode, row: Vec<u8>, bytes: Vec<u8>) -> Call {
-        Call::with_code(Kind::SlipWrite, code, row, vec![bytes])
+    pub fn slip_write(edition: usize, code: RawCode, row: Vec<u8>, bytes: Vec<u8>) -> Call {
+        let mut call = Call::with_code(Kind::SlipWrite, code, row, vec![bytes]);
+        call.numbers.insert(0, edition);
+        call
     }
 
     pub fn slip_read(bytes: Vec<u8>, points: Vec<u8>, row: Vec<u8>) -> Call {
@@ -117,6 +119,32 @@ impl Call {
 
     pub fn roll_first(roll: Vec<u8>) -> Call {
         Call::with_slip(Kind::RollFirst, roll, vec![])
+    }
+
+    /// m, r and k of a call that takes a code: its last numbers.
+    pub fn code_numbers(&self) -> [usize; 3] {
+        *self.numbers.last_chunk().expect("a call that takes a code")
+    }
+
+    pub fn set_code_numbers(&mut self, numbers: [usize; 3]) {
+        let last = self.numbers.last_chunk_mut();
+        *last.expect("a call that takes a code") = numbers;
+    }
+
+    /// The code of a call that takes one, and its edition: 0 where it takes none.
+    pub fn header(&self) -> Header {
+        let [m, r, k] = self.code_numbers();
+        let edition = match self.kind {
+            Kind::SlipWrite => self.numbers[0],
+            _ => 0,
+        };
+        Header {
+            edition,
+            m,
+            r,
+            count: self.inputs[0].len(),
+            k,
+        }
     }
 
     fn with_code(kind: Kind, code: RawCode, symbols: Vec<u8>, buffers: Vec<Vec<u8>>) -> Call {
@@ -138,9 +166,10 @@ impl Call {
     }
 }
 
-/// What a done slip reader answers beside its number; all zero for every other answer.
+/// An edition and a code in numbers. A done slip reader answers them; they are all zero for every other answer.
 #[derive(Clone, Copy, Debug, Default, PartialEq, Eq)]
 pub struct Header {
+    pub edition: usize,
     pub m: usize,
     pub r: usize,
     pub count: usize,
@@ -155,6 +184,15 @@ pub struct Answer {
 }
 
 impl Answer {
+    /// An answer with no header in it.
+    pub fn plain(number: u8, detail: usize) -> Answer {
+        Answer {
+            number,
+            detail,
+            header: Header::default(),
+        }
+    }
+
     /// The one word that the C function for this call returns.
     pub fn packed(self, kind: Kind) -> u64 {
         let number = u64::from(self.number);
@@ -162,13 +200,20 @@ impl Answer {
         if kind != Kind::SlipRead {
             return number | detail << 8;
         }
-        let Header { m, r, count, k } = self.header;
+        let Header {
+            edition,
+            m,
+            r,
+            count,
+            k,
+        } = self.header;
         number
             | (m as u64) << 8
             | (r as u64) << 16
             | (count as u64) << 24
             | (k as u64) << 32
             | detail << 40
+            | (edition as u64) << 48
     }
 }
 
@@ -180,6 +225,12 @@ pub struct Outcome {
 }
 
 impl Outcome {
+    /// An outcome with no header in it.
+    pub fn plain(number: u8, detail: usize, buffers: Vec<Vec<u8>>) -> Outcome {
+        let answer = Answer::plain(number, detail);
+        Outcome { answer, buffers }
+    }
+
     /// The outcome as the file of expected answers has it, without the newline.
     pub fn text(&self, kind: Kind) -> String {
         let Answer {
@@ -189,12 +240,26 @@ impl Outcome {
         } = self.answer;
         let mut fields = vec![number.to_string(), detail.to_string()];
         if kind == Kind::SlipRead {
-            let Header { m, r, count, k } = header;
-            fields.extend([m, r, count, k].map(|number| number.to_string()));
+            let Header {
+                edition,
+                m,
+                r,
+                count,
+                k,
+            } = header;
+            fields.extend([edition, m, r, count, k].map(|number| number.to_string()));
         }
         fields.extend(self.buffers.iter().map(|bytes| hex(bytes)));
         fields.join(" ")
     }
+}
+
+/// What a fresh buffer holds, so that one that was not written is seen.
+pub const BEFORE: u8 = 0xEE;
+
+/// A buffer for a call whose outcome is known beforehand.
+pub fn fresh(length: usize) -> Vec<u8> {
+    vec![BEFORE; length]
 }
 
 /// Two lower-case hexadecimal digits for each byte, or `-` for no bytes.

@@ -9,7 +9,7 @@ use std::slice;
 
 const PAGE: usize = 4096;
 /// The longest buffer that can be placed: a roll of 40 slips has room.
-pub const ROOM: usize = 4 * PAGE;
+pub const ROOM: usize = 6 * PAGE;
 /// What the bytes before the buffer hold, as many as there are but no more than a page.
 static PATTERN: [u8; PAGE] = [0xA5; PAGE];
 

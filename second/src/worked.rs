@@ -1,8 +1,10 @@
-//! Calls whose outcomes were worked by hand: the rows P2 to P12, the limits, two faults at once, and the six-byte slip.
+//! Calls whose outcomes were worked by hand: the rows P2 to P12, the limits, two faults at once, the six-byte slip, and rolls.
 //!
-//! No outcome here was computed by a program. P1 speaks of products and stands with the field's tests.
+//! No outcome here was computed by a program. P1 speaks of products and stands with the field's tests, and what slips of
+//! edition 2 add stands in `editions`.
 
-use crate::call::{Answer, Call, Header, Outcome, RawCode};
+use crate::call::{fresh, Call, Header, Outcome, RawCode, BEFORE};
+use crate::editions;
 
 /// A call, the outcome worked by hand, and what it shows.
 pub struct Worked {
@@ -11,14 +13,11 @@ pub struct Worked {
     pub outcome: Outcome,
 }
 
-/// What every buffer holds before the call, so that an unchanged one is seen.
-const BEFORE: u8 = 0xEE;
-
 /// 2 in its low half: a call that cuts numbers to 32 bits takes it for 2.
-const WIDE: usize = (1 << 32) + 2;
+pub const WIDE: usize = (1 << 32) + 2;
 
 /// P4's row as a slip.
-const SIX_BYTES: [u8; 6] = [0x10, 0x83, 0x06, 0x1B, 0x73, 0xB8];
+pub const SIX_BYTES: [u8; 6] = [0x10, 0x83, 0x06, 0x1B, 0x73, 0xB8];
 
 pub fn all() -> Vec<Worked> {
     let mut cases = rows();
@@ -29,10 +28,11 @@ pub fn all() -> Vec<Worked> {
     cases.extend(slips());
     cases.extend(loose_bits());
     cases.extend(rolls());
+    cases.extend(editions::all());
     cases
 }
 
-fn code(m: usize, r: usize, k: usize, points: &[u8]) -> RawCode {
+pub fn code(m: usize, r: usize, k: usize, points: &[u8]) -> RawCode {
     RawCode {
         m,
         r,
@@ -41,24 +41,11 @@ fn code(m: usize, r: usize, k: usize, points: &[u8]) -> RawCode {
     }
 }
 
-fn fresh(length: usize) -> Vec<u8> {
-    vec![BEFORE; length]
-}
-
-fn outcome(number: u8, detail: usize, buffers: Vec<Vec<u8>>) -> Outcome {
-    let answer = Answer {
-        number,
-        detail,
-        header: Header::default(),
-    };
-    Outcome { answer, buffers }
-}
-
 fn encodes(name: &'static str, code: RawCode, message: &[u8], row: &[u8]) -> Worked {
     Worked {
         name,
         call: Call::encode(code, message.to_vec(), fresh(row.len())),
-        outcome: outcome(0, 0, vec![row.to_vec()]),
+        outcome: Outcome::plain(0, 0, vec![row.to_vec()]),
     }
 }
 
@@ -73,7 +60,7 @@ fn refuses(
     Worked {
         name,
         call: Call::encode(code, message.to_vec(), fresh(room)),
-        outcome: outcome(number, detail, vec![fresh(room)]),
+        outcome: Outcome::plain(number, detail, vec![fresh(room)]),
     }
 }
 
@@ -101,7 +88,7 @@ fn decodes(
             fresh(message.len()),
             fresh(depths.len()),
         ),
-        outcome: outcome(0, total, vec![message.to_vec(), depths.to_vec()]),
+        outcome: Outcome::plain(0, total, vec![message.to_vec(), depths.to_vec()]),
     }
 }
 
@@ -111,7 +98,7 @@ fn too_far(name: &'static str, code: RawCode, row: &[u8]) -> Worked {
     Worked {
         name,
         call: Call::decode(code, row.to_vec(), message, depths),
-        outcome: outcome(9, 0, buffers),
+        outcome: Outcome::plain(9, 0, buffers),
     }
 }
 
@@ -136,7 +123,7 @@ fn measures(name: &'static str, r: usize, a: &[u8], b: &[u8], answer: (u8, usize
     Worked {
         name,
         call: Call::distance(r, a.to_vec(), b.to_vec()),
-        outcome: outcome(answer.0, answer.1, vec![]),
+        outcome: Outcome::plain(answer.0, answer.1, vec![]),
     }
 }
 
@@ -150,8 +137,8 @@ fn distances() -> Vec<Worked> {
         measures("two lengths", 2, &[0; 4], &[0; 2], (7, 0)),
         measures("no symbols", 1, &[], &[], (7, 0)),
         measures("no multiple of r", 2, &[0; 3], &[0; 3], (7, 0)),
-        measures("128 symbols", 8, &[1; 128], &[0; 128], (0, 128)),
-        measures("129 symbols", 1, &[0; 129], &[0; 129], (7, 0)),
+        measures("240 symbols", 8, &[1; 240], &[0; 240], (0, 240)),
+        measures("241 symbols", 1, &[0; 241], &[0; 241], (7, 0)),
     ]
 }
 
@@ -165,7 +152,6 @@ fn limits() -> Vec<Worked> {
     let first = |count: u8| (0..count).collect::<Vec<u8>>();
     let row = |c, r, count| constant_row(c, r, count);
     let sixteen = code(4, 1, 1, &first(16));
-    let deep = code(8, 8, 1, &first(16));
     let two = |k| code(2, 1, k, &[0, 1]);
     vec![
         encodes("r 8", code(8, 8, 1, &[5]), &[7], &row(7, 8, 1)),
@@ -178,12 +164,30 @@ fn limits() -> Vec<Worked> {
             17,
             (3, 0),
         ),
-        encodes("m 8, r 8, 16 points", deep, &[200], &row(200, 8, 16)),
-        refuses(
-            "m 8, r 8, 17 points",
-            code(8, 8, 1, &first(17)),
+        encodes(
+            "m 8, r 8, 30 points",
+            code(8, 8, 1, &first(30)),
             &[200],
-            136,
+            &row(200, 8, 30),
+        ),
+        refuses(
+            "m 8, r 8, 31 points",
+            code(8, 8, 1, &first(31)),
+            &[200],
+            248,
+            (3, 0),
+        ),
+        encodes(
+            "m 8, r 1, 240 points",
+            code(8, 1, 1, &first(240)),
+            &[200],
+            &[200; 240],
+        ),
+        refuses(
+            "m 8, r 1, 241 points",
+            code(8, 1, 1, &first(241)),
+            &[200],
+            241,
             (3, 0),
         ),
         refuses("no points", code(8, 1, 1, &[]), &[1], 0, (3, 0)),
@@ -237,12 +241,13 @@ fn slips() -> Vec<Worked> {
     let four = code(2, 2, 4, &[0, 1, 2, 3]);
     let row = vec![1, 3, 0, 3, 2, 3, 2, 0];
     let header = Header {
+        edition: 1,
         m: 2,
         r: 2,
         count: 4,
         k: 4,
     };
-    let mut read = outcome(0, 0, vec![vec![0, 1, 2, 3], row.clone()]);
+    let mut read = Outcome::plain(0, 0, vec![vec![0, 1, 2, 3], row.clone()]);
     read.answer.header = header;
     let text = b"0 2 | 1 2 2 1 | 1 0 1 0\n".to_vec();
     let kept = |mut bytes: Vec<u8>| {
@@ -252,8 +257,8 @@ fn slips() -> Vec<Worked> {
     vec![
         Worked {
             name: "the six bytes written",
-            call: Call::slip_write(four, row, fresh(7)),
-            outcome: outcome(0, 6, vec![kept(SIX_BYTES.to_vec())]),
+            call: Call::slip_write(1, four, row, fresh(7)),
+            outcome: Outcome::plain(0, 6, vec![kept(SIX_BYTES.to_vec())]),
         },
         Worked {
             name: "the six bytes read",
@@ -263,28 +268,28 @@ fn slips() -> Vec<Worked> {
         Worked {
             name: "the line of the six bytes",
             call: Call::line(SIX_BYTES.to_vec(), fresh(25)),
-            outcome: outcome(0, 24, vec![kept(text)]),
+            outcome: Outcome::plain(0, 24, vec![kept(text)]),
         },
         Worked {
             name: "a text buffer one byte short",
             call: Call::line(SIX_BYTES.to_vec(), fresh(23)),
-            outcome: outcome(7, 0, vec![fresh(23)]),
+            outcome: Outcome::plain(7, 0, vec![fresh(23)]),
         },
     ]
 }
 
 /// A slip that the reader refuses, whatever its buffers, and the line that says so.
-fn refuses_slip(name: &'static str, slip: &[u8], number: u8, line: &[u8]) -> [Worked; 2] {
+pub fn refuses_slip(name: &'static str, slip: &[u8], number: u8, line: &[u8]) -> [Worked; 2] {
     [
         Worked {
             name,
             call: Call::slip_read(slip.to_vec(), fresh(1), fresh(3)),
-            outcome: outcome(number, 0, vec![fresh(1), fresh(3)]),
+            outcome: Outcome::plain(number, 0, vec![fresh(1), fresh(3)]),
         },
         Worked {
             name,
             call: Call::line(slip.to_vec(), fresh(line.len())),
-            outcome: outcome(0, line.len(), vec![line.to_vec()]),
+            outcome: Outcome::plain(0, line.len(), vec![line.to_vec()]),
         },
     ]
 }
@@ -313,16 +318,16 @@ fn loose_bits() -> Vec<Worked> {
     .collect()
 }
 
-fn finds(name: &'static str, parts: &[&[u8]], answer: (u8, usize)) -> Worked {
+pub fn finds(name: &'static str, parts: &[&[u8]], answer: (u8, usize)) -> Worked {
     Worked {
         name,
         call: Call::roll_first(parts.concat()),
-        outcome: outcome(answer.0, answer.1, vec![]),
+        outcome: Outcome::plain(answer.0, answer.1, vec![]),
     }
 }
 
 /// The smallest slip: m 2, r 1, k 1, the point 0 and the symbol 1.
-const FOUR_BYTES: [u8; 4] = [0x10, 0x00, 0x00, 0x10];
+pub const FOUR_BYTES: [u8; 4] = [0x10, 0x00, 0x00, 0x10];
 
 fn rolls() -> Vec<Worked> {
     vec![

@@ -1,11 +1,12 @@
 //! The methods of this package agree with each other: all messages with Euclid's algorithm, and both with elimination.
 
-use second::call::{Answer, Call, Header, Kind, Outcome};
+use second::call::{Call, Kind, Outcome};
 use second::frame;
 use second::generate::codes::{self, Sizes};
 use second::generate::{case, damage};
 use second::plain;
 use second::random::Random;
+use second::reference::code::LONGEST_ROW;
 use second::reference::{self, decode, euclid, search};
 
 /// The outcome of a call to the plain encoder or decoder.
@@ -24,12 +25,7 @@ fn run_plain(call: &Call) -> Outcome {
         Ok(detail) => (0, detail),
         Err(refused) => (refused.number, refused.place),
     };
-    let answer = Answer {
-        number,
-        detail,
-        header: Header::default(),
-    };
-    Outcome { answer, buffers }
+    Outcome::plain(number, detail, buffers)
 }
 
 #[test]
@@ -51,7 +47,7 @@ fn euclid_agrees_with_trying_all_messages() {
     let mut random = Random::new(4);
     let (mut accepted, mut refused) = (0, 0);
     while accepted < 3000 || refused < 3000 {
-        let code = codes::code(&mut random, Sizes::MostlyShort);
+        let code = codes::code(&mut random, Sizes::MostlyShort, LONGEST_ROW);
         if !search::is_small(&code) {
             continue;
         }
@@ -71,7 +67,7 @@ fn euclid_agrees_with_trying_all_messages() {
 fn a_sent_row_damaged_within_the_radius_gives_its_message() {
     let mut random = Random::new(5);
     for _ in 0..3000 {
-        let code = codes::code(&mut random, Sizes::MostlyShort);
+        let code = codes::code(&mut random, Sizes::MostlyShort, LONGEST_ROW);
         let message = damage::message(&mut random, &code);
         let mut row = reference::rows::row_of(&code, &message);
         let total = random.between(0, code.radius());

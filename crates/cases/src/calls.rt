@@ -24,8 +24,16 @@ pub fn distance(r: usize, a: &[u8], b: &[u8]) {
     show::answer(rows::distance(r, a, b));
 }
 
-pub fn slip_write(m: usize, r: usize, k: usize, points: &[u8], row: &[u8], bytes: &mut [u8]) {
-    show::answer(slip::slip_write(m, r, k, points, row, bytes));
+pub fn slip_write(
+    edition: usize,
+    m: usize,
+    r: usize,
+    k: usize,
+    points: &[u8],
+    row: &[u8],
+    bytes: &mut [u8],
+) {
+    show::answer(slip::slip_write(edition, m, r, k, points, row, bytes));
     show::buffer(bytes);
 }
 

@@ -24,6 +24,7 @@ fn coded(call: u8) -> bool {
 // Each arm returns: no fact about the buffers has to be carried past the match.
 fn make(
     call: u8,
+    edition: usize,
     m: usize,
     r: usize,
     k: usize,
@@ -36,7 +37,7 @@ fn make(
         ENCODE => return calls::encode(m, r, k, first, second, buffer),
         DECODE => return calls::decode(m, r, k, first, second, buffer, other),
         DISTANCE => return calls::distance(r, first, second),
-        SLIP_WRITE => return calls::slip_write(m, r, k, first, second, buffer),
+        SLIP_WRITE => return calls::slip_write(edition, m, r, k, first, second, buffer),
         SLIP_READ => return calls::slip_read(first, buffer, other),
         LINE => return calls::line(first, buffer),
         _ => return calls::roll_first(first),
@@ -50,6 +51,7 @@ fn run(call: u8) {
     let mut buffer = [0u8; ROOM];
     let mut other = [0u8; ROOM];
     let two_inputs = coded(call) || call == DISTANCE;
+    let edition = frame::number(call == SLIP_WRITE);
     let m = frame::number(coded(call));
     let r = frame::number(two_inputs);
     let k = frame::number(coded(call));
@@ -59,6 +61,7 @@ fn run(call: u8) {
     let d = frame::slice(call == DECODE || call == SLIP_READ, &mut other);
     make(
         call,
+        edition,
         m,
         r,
         k,

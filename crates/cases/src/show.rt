@@ -1,4 +1,4 @@
-// The line of a case: number and detail, the reader's four numbers, and each buffer in hexadecimal, with single spaces between.
+// The line of a case: number and detail, the reader's five numbers, and each buffer in hexadecimal, with single spaces between.
 use crate::frame::wide;
 use defs::Answer;
 use defs::SlipRead;
@@ -33,6 +33,8 @@ pub fn answer(a: Answer) {
 pub fn reading(s: SlipRead) {
     let a = s.answer;
     answer(a);
+    io::write_all(1, b" ");
+    number(s.edition);
     io::write_all(1, b" ");
     number(s.m);
     io::write_all(1, b" ");

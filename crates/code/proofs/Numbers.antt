@@ -7,7 +7,7 @@ use borrow.Author.Tests.{eq-eqb, ne-eqb, lt-ltb, le-ltb, not-true, not-false}
 use lib.Dec.{eqb, ltb}
 use Rattle.defs.specs.Field.{Width}
 use Rattle.defs.specs.Refusal.{refuse}
-use Rattle.defs.specs.Limits.{deepest, longest, isWidth, numbersVerdict}
+use Rattle.defs.specs.Limits.{deepest, isWidth, numbersVerdict}
 use Rattle.defs.specs.declared.Refusal.the-variants.{Field, Depth, Points, Dimension}
 use Rattle.defs.specs.declared.Verdict.{Verdict}
 use Rattle.defs.specs.declared.Verdict.the-variants.{Fine, Refused}
@@ -26,51 +26,51 @@ product-small m r count size w h e l = let top : size ≤ 256 = rw e (field-top 
 unfoldable pub fromDimension : ℕ → ℕ → ℕ → Verdict
 fromDimension r k count = refuse (eqb k 0 || ltb (r * count) k) Dimension Fine
 
-unfoldable pub fromPoints : ℕ → ℕ → ℕ → ℕ → Verdict
-fromPoints m r k count = refuse (eqb count 0 || (ltb (2 ^ m) count || ltb longest (r * count))) Points (fromDimension r k count)
+unfoldable pub fromPoints : ℕ → ℕ → ℕ → ℕ → ℕ → Verdict
+fromPoints top m r k count = refuse (eqb count 0 || (ltb (2 ^ m) count || ltb top (r * count))) Points (fromDimension r k count)
 
-unfoldable pub fromDepth : ℕ → ℕ → ℕ → ℕ → Verdict
-fromDepth m r k count = refuse (eqb r 0 || ltb deepest r) Depth (fromPoints m r k count)
+unfoldable pub fromDepth : ℕ → ℕ → ℕ → ℕ → ℕ → Verdict
+fromDepth top m r k count = refuse (eqb r 0 || ltb deepest r) Depth (fromPoints top m r k count)
 
 -- b is what the test of m found, and size what the size of the field was found to be
-module _ (m r k count : ℕ) where
+module _ (top m r k count : ℕ) where
   module _ (b : Bool) (found : b ≡ isWidth m) where
-    pub not-width : not b ≡ true → numbersVerdict m r k count ≡ Refused Field
+    pub not-width : not b ≡ true → numbersVerdict top m r k count ≡ Refused Field
     unfolding numbersVerdict refuse
     not-width t = rw (sym found ∙ not-true b t)
 
-    pub width-passed : not b ≡ false → numbersVerdict m r k count ≡ fromDepth m r k count
+    pub width-passed : not b ≡ false → numbersVerdict top m r k count ≡ fromDepth top m r k count
     unfolding numbersVerdict fromDepth fromPoints fromDimension refuse
     width-passed t = rw (sym found ∙ not-false b t)
 
-  pub no-depth : r ≡ 0 → fromDepth m r k count ≡ Refused Depth
+  pub no-depth : r ≡ 0 → fromDepth top m r k count ≡ Refused Depth
   unfolding fromDepth refuse
   no-depth t = rw (eq-eqb r 0 t)
 
-  pub too-deep : (r ≡ 0 → ⊥) → deepest < r → fromDepth m r k count ≡ Refused Depth
+  pub too-deep : (r ≡ 0 → ⊥) → deepest < r → fromDepth top m r k count ≡ Refused Depth
   unfolding fromDepth refuse
   too-deep n t = rw (ne-eqb r 0 n, lt-ltb deepest r t)
 
-  pub depth-passed : (r ≡ 0 → ⊥) → r ≤ deepest → fromDepth m r k count ≡ fromPoints m r k count
+  pub depth-passed : (r ≡ 0 → ⊥) → r ≤ deepest → fromDepth top m r k count ≡ fromPoints top m r k count
   unfolding fromDepth fromPoints refuse
   depth-passed n t = rw (ne-eqb r 0 n, le-ltb deepest r t)
 
-  pub no-points : count ≡ 0 → fromPoints m r k count ≡ Refused Points
+  pub no-points : count ≡ 0 → fromPoints top m r k count ≡ Refused Points
   unfolding fromPoints refuse
   no-points t = rw (eq-eqb count 0 t)
 
   module _ (some : count ≡ 0 → ⊥) (size : ℕ) (is-size : size ≡ 2 ^ m) where
-    pub too-many : size < count → fromPoints m r k count ≡ Refused Points
+    pub too-many : size < count → fromPoints top m r k count ≡ Refused Points
     unfolding fromPoints refuse
     too-many t = rw (ne-eqb count 0 some, ← is-size, lt-ltb size count t)
 
-    pub too-long : count ≤ size → longest < r * count → fromPoints m r k count ≡ Refused Points
+    pub too-long : count ≤ size → top < r * count → fromPoints top m r k count ≡ Refused Points
     unfolding fromPoints refuse
-    too-long l t = rw (ne-eqb count 0 some, ← is-size, le-ltb size count l, lt-ltb longest (r * count) t)
+    too-long l t = rw (ne-eqb count 0 some, ← is-size, le-ltb size count l, lt-ltb top (r * count) t)
 
-    pub points-passed : count ≤ size → r * count ≤ longest → fromPoints m r k count ≡ fromDimension r k count
+    pub points-passed : count ≤ size → r * count ≤ top → fromPoints top m r k count ≡ fromDimension r k count
     unfolding fromPoints fromDimension refuse
-    points-passed l t = rw (ne-eqb count 0 some, ← is-size, le-ltb size count l, le-ltb longest (r * count) t)
+    points-passed l t = rw (ne-eqb count 0 some, ← is-size, le-ltb size count l, le-ltb top (r * count) t)
 
 module _ (r k count : ℕ) where
   pub no-dimension : k ≡ 0 → fromDimension r k count ≡ Refused Dimension

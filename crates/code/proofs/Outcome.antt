@@ -34,11 +34,11 @@ module _ (m : ℕ) (s : List ℕ) (high : ℕ) (h : high ≡ firstHigh m s) wher
 
 -- high and twice are what the two searches found
 module _ (m r k : ℕ) (points : List ℕ) where
-  pub refused-numbers : (x : Refusal) → numbersVerdict m r k (length points) ≡ Refused x → refusedWith x ≡ checked m r k points
+  pub refused-numbers : (x : Refusal) → numbersVerdict longest m r k (length points) ≡ Refused x → refusedWith x ≡ checked m r k points
   unfolding checked refusedWith codeFor codeVerdict andThen
   refused-numbers x e = rw e
 
-  module _ (e : numbersVerdict m r k (length points) ≡ Fine) (high : ℕ) (h : high ≡ firstHigh m points) where
+  module _ (e : numbersVerdict longest m r k (length points) ≡ Fine) (high : ℕ) (h : high ≡ firstHigh m points) where
     pub refused-high : high < length points → refusedWith (PointHigh high) ≡ checked m r k points
     unfolding checked refusedWith codeFor codeVerdict andThen refuse
     refused-high l = rw (e, ← h, lt-ltb high (length points) l)
@@ -89,7 +89,7 @@ fine-passed m r k points v = record {
 }
 
 module _ (m r k : ℕ) (points : List ℕ) (c : Checked) (e : c ≡ checked m r k points) where
-  pub verdict-is : c .verdict ≡ codeVerdict m r k points
+  pub verdict-is : c .verdict ≡ codeVerdict longest m r k points
   unfolding checked
   verdict-is = ap (λ (x : Checked). x .verdict) e
 

@@ -24,7 +24,7 @@ codeFor Fine m r k points = record { m = m; r = r; k = k; count = length points;
 codeFor (Refused x) m r k points = record { m = 0; r = 0; k = 0; count = 0; points = zeros }
 
 unfoldable pub checked : ℕ → ℕ → ℕ → List ℕ → Checked
-checked m r k points = record { verdict = codeVerdict m r k points; code = codeFor (codeVerdict m r k points) m r k points }
+checked m r k points = record { verdict = codeVerdict longest m r k points; code = codeFor (codeVerdict longest m r k points) m r k points }
 
 unfoldable pub refusedWith : Refusal → Checked
 refusedWith x = record { verdict = Refused x; code = codeFor (Refused x) 0 0 0 [] }

@@ -82,9 +82,9 @@ pub fn check_symbols(m: usize, s: &[u8]) -> Verdict
     Verdict::Fine
 }
 
-// 1 to 4, on the numbers alone.
-pub fn check_numbers(m: usize, r: usize, k: usize, count: usize) -> Verdict
-    ensures { λ v. ⌜ v ≡ numbersVerdict m r k count ⌝ }
+// 1 to 4, on the numbers alone. top is the longest row allowed.
+pub fn check_numbers(top: usize, m: usize, r: usize, k: usize, count: usize) -> Verdict
+    ensures { λ v. ⌜ v ≡ numbersVerdict top m r k count ⌝ }
 {
     if !is_width(m) {
         return Verdict::Refused(Refusal::Field);
@@ -102,7 +102,7 @@ pub fn check_numbers(m: usize, r: usize, k: usize, count: usize) -> Verdict
         return Verdict::Refused(Refusal::Points);
     }
     let n = r * count;
-    if LONGEST < n {
+    if top < n {
         return Verdict::Refused(Refusal::Points);
     }
     if k == 0 {
@@ -146,7 +146,7 @@ fn refused(x: Refusal) -> Checked
 pub fn check_code(m: usize, r: usize, k: usize, points: &[u8]) -> Checked
     ensures { λ c. ⌜ c ≡ checked m r k (now (points .entry)) ⌝ }
 {
-    let v = check_numbers(m, r, k, points.len());
+    let v = check_numbers(LONGEST, m, r, k, points.len());
     if let Verdict::Refused(x) = v {
         return refused(x);
     }

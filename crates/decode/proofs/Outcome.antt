@@ -122,7 +122,7 @@ front-whole new old e = rw (drop-of-length-le old {i = length new} (omega arith)
 
 -- the ways out of the call
 module _ (m r k : ℕ) (points w message depth : List ℕ) where
-  pub code-refused : (x : Refusal) → codeVerdict m r k points ≡ Refused x → Decoded m r k points w message depth (No x) message depth
+  pub code-refused : (x : Refusal) → codeVerdict longest m r k points ≡ Refused x → Decoded m r k points w message depth (No x) message depth
   unfolding decodeVerdict andThen
   code-refused x e = refused x (rw e) refl refl refl
 

@@ -8,7 +8,7 @@ use lib.ListN.{length}
 use Rattle.defs.specs.Row.{rowOf}
 use Rattle.defs.specs.Distance.{depths, distance, Near}
 use Rattle.defs.specs.Refusal.{refuse, andThen}
-use Rattle.defs.specs.Limits.{codeVerdict}
+use Rattle.defs.specs.Limits.{longest, codeVerdict}
 use Rattle.defs.specs.Encode.{symbolsVerdict}
 use Rattle.defs.specs.declared.Refusal.{Refusal}
 use Rattle.defs.specs.declared.Refusal.the-variants.{Length, TooFar}
@@ -20,7 +20,7 @@ use Rattle.defs.specs.declared.Answer.the-variants.{Done, Refused as No}
 -- 1 to 6, 7, 8; the last two numbers are the lengths of the message buffer and of the depth buffer
 unfoldable pub decodeVerdict : ℕ → ℕ → ℕ → List ℕ → List ℕ → ℕ → ℕ → Verdict
 decodeVerdict m r k points w size count =
-    andThen (codeVerdict m r k points)
+    andThen (codeVerdict longest m r k points)
     (refuse (not (eqb (length w) (r * length points))) Length
     (refuse (not (eqb size k)) Length
     (refuse (not (eqb count (length points))) Length

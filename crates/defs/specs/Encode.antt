@@ -22,7 +22,7 @@ symbolsVerdict m s = refuse (ltb (firstHigh m s) (length s)) (SymbolHigh (firstH
 -- 1 to 6, 7, 8; size is the length of the row buffer
 unfoldable pub encodeVerdict : ℕ → ℕ → ℕ → List ℕ → List ℕ → ℕ → Verdict
 encodeVerdict m r k points message size =
-    andThen (codeVerdict m r k points)
+    andThen (codeVerdict longest m r k points)
     (refuse (not (eqb (length message) k)) Length
     (refuse (not (eqb size (r * length points))) Length
     (symbolsVerdict m message)))

@@ -16,29 +16,34 @@ abbrev pub deepest : ℕ
 deepest = 8
 
 abbrev pub longest : ℕ
-longest = 128
+longest = 240
 
 abbrev pub isWidth : ℕ → Bool
 isWidth m = eqb m 2 || (eqb m 4 || eqb m 8)
 
--- 1 to 4, on the numbers alone; count is the number of points
-unfoldable pub numbersVerdict : ℕ → ℕ → ℕ → ℕ → Verdict
-numbersVerdict m r k count =
+-- 1 to 4, on the numbers alone; top is the longest row allowed, count the number of points
+unfoldable pub numbersVerdict : ℕ → ℕ → ℕ → ℕ → ℕ → Verdict
+numbersVerdict top m r k count =
     refuse (not (isWidth m)) Field
     (refuse (eqb r 0 || ltb deepest r) Depth
-    (refuse (eqb count 0 || (ltb (2 ^ m) count || ltb longest (r * count))) Points
+    (refuse (eqb count 0 || (ltb (2 ^ m) count || ltb top (r * count))) Points
     (refuse (eqb k 0 || ltb (r * count) k) Dimension Fine)))
 
 -- the least index whose point equals an earlier one, and the number of points where there is none
 unfoldable pub firstTwice : List ℕ → ℕ
 firstTwice points = least (λ i. ltb (least (λ j. eqb (getD points j 0) (getD points i 0)) i) i) (length points)
 
-unfoldable pub codeVerdict : ℕ → ℕ → ℕ → List ℕ → Verdict
-codeVerdict m r k points =
-    andThen (numbersVerdict m r k (length points))
+-- and 5 and 6
+unfoldable pub codeVerdict : ℕ → ℕ → ℕ → ℕ → List ℕ → Verdict
+codeVerdict top m r k points =
+    andThen (numbersVerdict top m r k (length points))
     (refuse (ltb (firstHigh m points) (length points)) (PointHigh (firstHigh m points))
     (refuse (ltb (firstTwice points) (length points)) (PointTwice (firstTwice points)) Fine))
 
+-- a code whose rows have at most top symbols
+abbrev pub Within : ℕ → ℕ → ℕ → ℕ → List ℕ → Type 0
+Within top m r k points = codeVerdict top m r k points ≡ Fine
+
 -- a code inside the limits
 abbrev pub Inside : ℕ → ℕ → ℕ → List ℕ → Type 0
-Inside m r k points = codeVerdict m r k points ≡ Fine
+Inside = Within longest

@@ -4,7 +4,7 @@
 pub const DEEPEST: usize = 8;
 
 // The symbols that a row may have, and so the points and the message.
-pub const LONGEST: usize = 128;
+pub const LONGEST: usize = 240;
 
 // Why a call is refused: a variant for each number, with the place in 5, 6 and 8.
 pub enum Refusal {
@@ -44,9 +44,19 @@ pub struct Code {
     pub points: [u8; LONGEST],
 }
 
-// What the slip reader answers. The four numbers are 0 on refusal.
+// How an edition lays out a slip: the bits of n' - 1 and of k - 1, the zero bits behind them, and the longest row that it holds.
+pub struct Layout {
+    pub edition: usize,
+    pub countbits: usize,
+    pub kbits: usize,
+    pub zerobits: usize,
+    pub top: usize,
+}
+
+// What the slip reader answers. The edition and the code's numbers are 0 on refusal.
 pub struct SlipRead {
     pub answer: Answer,
+    pub edition: usize,
     pub m: usize,
     pub r: usize,
     pub count: usize,

@@ -1,5 +1,5 @@
 -- Every answer that a call may give is small enough to be packed.
-use Prim.Native.Nat.{ℕ, _+_, _/_, _^_, _<_}
+use Prim.Native.Nat.{ℕ, _/_, _^_, _<_}
 use mathlib.Core.Path.{_≡_, refl}
 use mathlib.Core.List.{List}
 use native.Mathlib.Nat.{mul-le-mul}
@@ -11,7 +11,7 @@ use Rattle.defs.specs.Distance.{radius}
 use Rattle.defs.specs.Limits.{deepest, longest}
 use Rattle.defs.specs.Encode.{encodeVerdict, distanceVerdict, distanceAnswer, Encoded}
 use Rattle.defs.specs.Decode.{Decoded, refused, found, none}
-use Rattle.defs.specs.Slip.{slipSize, widthIn}
+use Rattle.defs.specs.Slip.{headBits, slipSize, widthIn}
 use Rattle.defs.specs.Write.{writeVerdict, Written}
 use Rattle.defs.specs.Read.{reading, Read}
 use Rattle.defs.specs.Line.{lineVerdict, Lined}
@@ -28,8 +28,8 @@ use Rattle.rows.proofs.Outcome.{distance-rows}
 use Rattle.theory.proofs.Width.{width-top}
 use Rattle.theory.proofs.Verdict.{Every, every-fine, every-plain}
 use Rattle.theory.proofs.Refusals.{encode-every, decode-every, write-every, distance-every}
-use Rattle.slip.proofs.Writer.{inside-width, writable, few, size-top}
-use Rattle.slip.proofs.Reader.{Sound, points-few}
+use Rattle.slip.proofs.Writer.{writable, written-top}
+use Rattle.slip.proofs.Reader.{edition-low, Sound, points-few}
 use Rattle.line.proofs.Lengths.{refusal-small}
 use Rattle.line.proofs.Lines.{line-short}
 use Rattle.slip.proofs.Taken.{read-sound}
@@ -82,13 +82,12 @@ distance-detail r u w a e =
       mul-le-mul {n₁ = r} {m₁ = length u / r} {n₂ = deepest} {m₂ = longest} (rows .depth) (rows .few),
     ))
 
-pub written-small : {m r k : ℕ} {points w bytes : List ℕ} {a : Answer} {bytes′ : List ℕ}
-    → Written m r k points w bytes a bytes′ → detail a < 2 ^ 16
-unfolding slipSize
-written-small {m} {r} {k} {points} {w} {bytes} {a} x =
-    answer-small (writeVerdict m r k points w (length bytes)) _ a (x .answers) (write-every small m r k points w (length bytes))
-    (λ fine. let y = writable m r k points w _ fine in
-    omega (arith, size-top m (length points + length w) (inside-width m r k points (y .inside)) (few m r k points w (y .inside) (y .row))))
+pub written-small : {edition m r k : ℕ} {points w bytes : List ℕ} {a : Answer} {bytes′ : List ℕ}
+    → Written edition m r k points w bytes a bytes′ → detail a < 2 ^ 16
+unfolding slipSize headBits
+written-small {edition} {m} {r} {k} {points} {w} {bytes} {a} x =
+    answer-small (writeVerdict edition m r k points w (length bytes)) _ a (x .answers) (write-every small m r k points edition w (length bytes))
+    (λ fine. omega (arith, written-top edition m r k points w (length bytes) (writable edition m r k points w _ fine)))
 
 line-small : (text : List ℕ) (size : ℕ) → Every Small (lineVerdict text size)
 unfolding lineVerdict
@@ -111,6 +110,7 @@ reading-narrow Fine bytes s h =
       count-fits = omega (arith, points-few bytes x);
       k-fits = omega (arith, x .numbers .k-top, x .numbers .row-top);
       detail-fits = lit< tt;
+      edition-fits = omega (arith, edition-low bytes);
     }
 reading-narrow (Refused y) bytes s h = record {
   m-fits = lit< tt;
@@ -118,6 +118,7 @@ reading-narrow (Refused y) bytes s h = record {
   count-fits = lit< tt;
   k-fits = lit< tt;
   detail-fits = s .of y refl;
+  edition-fits = lit< tt;
 }
 
 pub read-narrow : {bytes points row : List ℕ} {s : SlipRead} {points′ row′ : List ℕ} → Read bytes points row s points′ row′ → Narrow s

@@ -17,10 +17,11 @@ use Rattle.defs.specs.declared.SlipRead.{SlipRead}
 abbrev pub packed : Answer → ℕ
 packed a = number a + detail a * 2 ^ 8
 
--- the number, m, r, n' and k in a byte each, the detail above them
+-- the number, m, r, n', k, the detail and the edition in a byte each
 abbrev pub packedRead : SlipRead → ℕ
 packedRead s =
     number (s .answer) + s .m * 2 ^ 8 + s .r * 2 ^ 16 + s .count * 2 ^ 24 + s .k * 2 ^ 32 + detail (s .answer) * 2 ^ 40
+    + s .edition * 2 ^ 48
 
 -- the number, and the size of a roll's first slip above it
 abbrev pub packedRoll : List ℕ → ℕ
@@ -39,8 +40,8 @@ abbrev pub PackedDecoded : ℕ → ℕ → ℕ → List ℕ → List ℕ → Lis
 PackedDecoded m r k points w message depth p message′ depth′ =
     Packs packed (λ a. Decoded m r k points w message depth a message′ depth′) p
 
-abbrev pub PackedWritten : ℕ → ℕ → ℕ → List ℕ → List ℕ → List ℕ → ℕ → List ℕ → Type 0
-PackedWritten m r k points w bytes p bytes′ = Packs packed (λ a. Written m r k points w bytes a bytes′) p
+abbrev pub PackedWritten : ℕ → ℕ → ℕ → ℕ → List ℕ → List ℕ → List ℕ → ℕ → List ℕ → Type 0
+PackedWritten edition m r k points w bytes p bytes′ = Packs packed (λ a. Written edition m r k points w bytes a bytes′) p
 
 abbrev pub PackedRead : List ℕ → List ℕ → List ℕ → ℕ → List ℕ → List ℕ → Type 0
 PackedRead bytes points row p points′ row′ = Packs packedRead (λ s. Read bytes points row s points′ row′) p
@@ -55,3 +56,4 @@ pub record Narrow (s : SlipRead) : Type 0 where
   pub count-fits : s .count < 2 ^ 8
   pub k-fits : s .k < 2 ^ 8
   pub detail-fits : detail (s .answer) < 2 ^ 8
+  pub edition-fits : s .edition < 2 ^ 8

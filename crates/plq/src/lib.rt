@@ -29,7 +29,14 @@ fn pack_read(s: SlipRead) -> u64
     let r = s.r as u64;
     let count = s.count as u64;
     let k = s.k as u64;
-    number + m * 256 + r * 65536 + count * 16777216 + k * 4294967296 + detail * 1099511627776
+    let edition = s.edition as u64;
+    number
+        + m * 256
+        + r * 65536
+        + count * 16777216
+        + k * 4294967296
+        + detail * 1099511627776
+        + edition * 281474976710656
 }
 
 // Writes the row of a message.
@@ -71,9 +78,10 @@ pub extern "C" fn plq_distance(r: usize, a: &[u8], b: &[u8]) -> u64
     pack(rows::distance(r, a, b))
 }
 
-// Writes a code and a row as a slip.
+// Writes a code and a row as a slip of an edition.
 #[no_mangle]
 pub extern "C" fn plq_slip_write(
+    edition: usize,
     m: usize,
     r: usize,
     k: usize,
@@ -81,9 +89,9 @@ pub extern "C" fn plq_slip_write(
     row: &[u8],
     bytes: &mut [u8],
 ) -> u64
-    ensures { λ p. ⌜ PackedWritten m r k (now (points .entry)) (now (row .entry)) (now (bytes .entry)) p (now (bytes .exit)) ⌝ }
+    ensures { λ p. ⌜ PackedWritten edition m r k (now (points .entry)) (now (row .entry)) (now (bytes .entry)) p (now (bytes .exit)) ⌝ }
 {
-    pack(slip::slip_write(m, r, k, points, row, bytes))
+    pack(slip::slip_write(edition, m, r, k, points, row, bytes))
 }
 
 // Reads a slip.

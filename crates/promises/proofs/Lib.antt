@@ -14,3 +14,7 @@ pub mod Unpacked
 pub mod Roll
 pub mod Walk
 pub mod OneSlip
+pub mod Loose
+pub mod Edition
+pub mod Longest
+pub mod FirstProgram

@@ -1,4 +1,4 @@
--- What is known of every outcome of the call: there is one, the first 260 bytes decide it, a refusal changes no buffer, and a buffer
+-- What is known of every outcome of the call: there is one, the first 485 bytes decide it, a refusal changes no buffer, and a buffer
 -- of 6 bytes for each symbol of the longest row and 8 has room for it.
 use Prim.Native.Nat.{ℕ, _<_, _≤_}
 use mathlib.Core.Path.{_≡_, sym, _∙_}
@@ -10,7 +10,7 @@ use lib.Seq.{take-all}
 use borrow.Author.Tests.{le-ltb}
 use Rattle.defs.specs.Refusal.{refuse, answer}
 use Rattle.defs.specs.Limits.{longest}
-use Rattle.defs.specs.Slip.{slipSize, longestSlip}
+use Rattle.defs.specs.Slip.{longestSlip}
 use Rattle.defs.specs.Read.{readVerdict}
 use Rattle.defs.specs.Line.{RowLine, decoded, Line, refused, read, lineVerdict, Lined}
 use Rattle.defs.specs.declared.Refusal.{Refusal}
@@ -40,7 +40,7 @@ lined-unique bytes buffer a a′ b b′ u v =
     let e = line-unique bytes (u .text) (v .text) (u .is-line) (v .is-line) in
     (cc (u .answers, v .answers), cc (u .leaves, v .leaves))
 
--- ---- the first 260 bytes decide
+-- ---- the first 485 bytes decide
 
 -- bytes that are refused alike have the same line
 alike : (s t text : List ℕ) → readVerdict s longest longest ≡ readVerdict t longest longest → (readVerdict s longest longest ≡ Fine → ⊥)

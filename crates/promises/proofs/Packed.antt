@@ -25,8 +25,8 @@ packed-decode-same m r k points w message depth p q s t u v x y =
 pub packed-distance-same : (r : ℕ) (u w : List ℕ) {p q : ℕ} → p ≡ packed (distanceAnswer r u w) → q ≡ packed (distanceAnswer r u w) → p ≡ q
 packed-distance-same r u w x y = x ∙ sym y
 
-pub packed-write-same : {m r k : ℕ} {points w bytes : List ℕ} {p q : ℕ} {s t : List ℕ}
-    → PackedWritten m r k points w bytes p s → PackedWritten m r k points w bytes q t → (p ≡ q) × (s ≡ t)
+pub packed-write-same : {edition m r k : ℕ} {points w bytes : List ℕ} {p q : ℕ} {s t : List ℕ}
+    → PackedWritten edition m r k points w bytes p s → PackedWritten edition m r k points w bytes q t → (p ≡ q) × (s ≡ t)
 packed-write-same x y =
     let e = written-same (x .call) (y .call) in
     (packs-same x y (e .0), e .1)

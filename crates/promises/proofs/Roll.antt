@@ -8,12 +8,11 @@ use native.Mathlib.Decide.{decLt}
 use native.Mathlib.Omega.{arith}
 use lib.Dec.{eqb, ltb, lit≤}
 use lib.ListN.{length, take, drop, length-append}
-use lib.Seq.{take-all, take-append-seam, take-append-le, drop-append-seam}
+use lib.Seq.{take-all, take-take, take-append-seam, take-append-le, drop-append-seam}
 use borrow.Author.Tests.{le-ltb}
 use Rattle.defs.specs.Refusal.{numberOf, number, refuse, andThen, answer, kept}
-use Rattle.defs.specs.Limits.{numbersVerdict}
-use Rattle.defs.specs.Slip.{slipSize, longestSlip, widthIn, depthIn, countIn, dimensionIn, sizeIn}
-use Rattle.defs.specs.Read.{firstVerdict, headVerdict, readVerdict}
+use Rattle.defs.specs.Slip.{layoutOf, headBits, slipSize, longestSlip, editionIn, layoutIn, widthIn, depthIn, countIn, sizeIn}
+use Rattle.defs.specs.Read.{firstVerdictOf, firstVerdict, headVerdict, readVerdict}
 use Rattle.defs.specs.Line.{lineOf, Line, refused}
 use Rattle.defs.specs.Roll.{rollVerdict, firstPart, restPart}
 use Rattle.defs.specs.declared.Refusal.{Refusal}
@@ -23,12 +22,11 @@ use Rattle.defs.specs.declared.Verdict.the-variants.{Fine, Refused}
 use Rattle.defs.specs.declared.Answer.{Answer}
 use Rattle.defs.specs.declared.Answer.the-variants.{Refused as No}
 use Rattle.theory.proofs.Width.{by-width}
-use Rattle.theory.proofs.Limits.{numbers-known}
 use Rattle.theory.proofs.Verdict.{apart, then-fine, answer-refused, Every, every-fine}
-use Rattle.slip.proofs.Reader.{Begins, header-top, begins, begun, head-fine, sound}
+use Rattle.slip.proofs.Reader.{numbersIn, laid-in, numbers-are, Begins, header-top, begins, begun, head-fine, sound}
 use Rattle.slip.proofs.Refusals.{first-every}
 use Rattle.roll.proofs.Parts.{others-first, none-found, parts-join, first-within, rest-left, first-found, first-long}
-use Rattle.promises.proofs.Header.{SameHead, head-front, head-same, size-same, numbers-same}
+use Rattle.promises.proofs.Header.{headBytes, SameHead, layout-same, size-same, numbers-same, head-front, head-part, head-same}
 
 -- ---- one outcome
 
@@ -41,10 +39,10 @@ roll-parts-same roll s t s′ t′ p q p′ q′ = (p ∙ sym p′, q ∙ sym q�
 -- ---- the first part
 
 -- a header, and a byte for the point and the symbol that are there at least
-size-bottom : (bytes : List ℕ) → numbersVerdict (widthIn bytes) (depthIn bytes) (dimensionIn bytes) (countIn bytes) ≡ Fine → 4 ≤ sizeIn bytes
+size-bottom : (bytes : List ℕ) → numbersIn bytes ≡ Fine → headBytes bytes + 1 ≤ sizeIn bytes
 unfolding sizeIn slipSize
 size-bottom bytes e =
-    let n = numbers-known _ _ _ _ e in
+    let n = numbers-are bytes e in
     let symbols = countIn bytes + depthIn bytes * countIn bytes in
     omega (
       arith,
@@ -54,7 +52,7 @@ size-bottom bytes e =
 
 -- a roll that begins with a slip has a first part
 pub first-some : (roll : List ℕ) → firstVerdict roll ≡ Fine → 4 ≤ length (firstPart roll)
-first-some roll e = omega (arith, first-long roll e, size-bottom roll (begins roll e .fine))
+first-some roll e = omega (arith, first-long roll e, size-bottom roll (begins roll e .fine), laid-in roll .bytes-bottom)
 
 -- an empty roll is done, and both parts are empty
 pub empty-done : (rollVerdict [] ≡ Fine) × (firstPart [] ≡ []) × (restPart [] ≡ [])
@@ -77,34 +75,53 @@ rolls-same (x ∷ s) (y ∷ t) l e = e
 rolls-same [] (y ∷ t) l e = absurd (omega arith)
 rolls-same (x ∷ s) [] l e = absurd (omega arith)
 
--- THE HEADER DECIDES: rolls of one length with equal first three bytes have one answer and one size
-module _ (a b : List ℕ) (l : length a ≡ length b) (h : take 3 a ≡ take 3 b) where
+-- rolls of one length with equal headers, by the edition of one of them
+module _ (a b : List ℕ) (l : length a ≡ length b) (h : take (headBytes a) a ≡ take (headBytes a) b) where
+  heads-same : headBytes a ≤ length a → SameHead a b
+  heads-same whole = head-same (headBytes a) a b (omega arith) whole (omega arith) h
+
   first-same : firstVerdict a ≡ firstVerdict b
-  unfolding firstVerdict
-  first-same = go (decLt (length a) 3)
+  unfolding firstVerdictOf
+  first-same = go (decLt (length a) (headBytes a))
     where
-      go : Dec (length a < 3) → firstVerdict a ≡ firstVerdict b
-      go (yes s) = ap firstVerdict (sym (take-all 3 a (omega arith)) ∙ h ∙ take-all 3 b (omega arith))
+      go : Dec (length a < headBytes a) → firstVerdict a ≡ firstVerdict b
+      go (yes s) = ap firstVerdict (sym (take-all (headBytes a) a (omega arith)) ∙ h ∙ take-all (headBytes a) b (omega arith))
       go (no s) =
-          let q = head-same a b (omega arith) (omega arith) h in
-          rw (l, q .edition, numbers-same q, size-same q)
+          let q = heads-same (omega arith) in
+          rw (l, q .edition, numbers-same q, layout-same q, size-same q)
 
   by-verdict : (v : Verdict) → firstVerdict a ≡ v → firstVerdict b ≡ v → length (firstPart a) ≡ length (firstPart b)
-  by-verdict Fine e e′ = first-long a e ∙ size-same (head-same a b (begins a e .long) (begins b e′ .long) h) ∙ sym (first-long b e′)
+  by-verdict Fine e e′ = first-long a e ∙ size-same (heads-same (begins a e .whole)) ∙ sym (first-long b e′)
   by-verdict (Refused x) e e′ = ap length (none-found a x e ∙ sym (none-found b x e′))
 
-  pub header-decides : (answer (rollVerdict a) 0 ≡ answer (rollVerdict b) 0) × (length (firstPart a) ≡ length (firstPart b))
-  header-decides = (ap (λ v. answer v 0) (rolls-same a b l first-same), by-verdict (firstVerdict b) first-same refl)
+  heads-decide : (answer (rollVerdict a) 0 ≡ answer (rollVerdict b) 0) × (length (firstPart a) ≡ length (firstPart b))
+  heads-decide = (ap (λ v. answer v 0) (rolls-same a b l first-same), by-verdict (firstVerdict b) first-same refl)
+
+-- THE HEADER DECIDES: rolls of one length with equal first four bytes have one answer and one size
+pub header-decides : (a b : List ℕ) → length a ≡ length b → take 4 a ≡ take 4 b
+    → (answer (rollVerdict a) 0 ≡ answer (rollVerdict b) 0) × (length (firstPart a) ≡ length (firstPart b))
+header-decides a b l h =
+    let fewer = laid-in a .bytes-top in
+    heads-decide a b l (sym (take-take (headBytes a) 4 a fewer) ∙ ap (take (headBytes a)) h ∙ take-take (headBytes a) 4 b fewer)
+
+-- and in edition 1 equal first three
+pub old-decides : (a b : List ℕ) → length a ≡ length b → editionIn a ≡ 1 → take 3 a ≡ take 3 b
+    → (answer (rollVerdict a) 0 ≡ answer (rollVerdict b) 0) × (length (firstPart a) ≡ length (firstPart b))
+unfolding layoutIn layoutOf headBits
+old-decides a b l e h =
+    let three : headBytes a ≡ 3 = rw e in
+    heads-decide a b l (rw three h)
 
 -- ---- what stands behind
 
 -- bytes that begin with a slip still do so in front of others
 begins-front : (s t : List ℕ) → Begins s → Begins (s ++ t)
 begins-front s t b =
-    let h = head-front s t (b .long) in
+    let h = head-front s t (b .whole) in
     record {
       long = omega (arith, b .long, length-append s t);
-      edition = h .edition ∙ b .edition;
+      known = rw (h .edition) (b .known);
+      whole = rw (layout-same h) (omega (arith, b .whole, length-append s t));
       fine = numbers-same h ∙ b .fine;
       size = omega (arith, size-same h, b .size, length-append s t);
     }
@@ -121,7 +138,7 @@ module _ (s t : List ℕ) (e : headVerdict s ≡ Fine) where
   pub front-first : firstPart (s ++ t) ≡ s
   front-first =
       first-found (s ++ t) front-fine
-      ∙ ap (λ n. take n (s ++ t)) (size-same (head-front s t (alone .long)) ∙ sym (sound s e .size)) ∙ take-append-seam s t
+      ∙ ap (λ n. take n (s ++ t)) (size-same (head-front s t (alone .whole)) ∙ sym (sound s e .size)) ∙ take-append-seam s t
 
   pub front-rest : restPart (s ++ t) ≡ t
   front-rest = sym (rest-left (s ++ t)) ∙ ap (λ (u : List ℕ). drop (length u) (s ++ t)) front-first ∙ drop-append-seam s t
@@ -131,41 +148,53 @@ pub first-whole : (roll : List ℕ) → firstVerdict roll ≡ Fine → headVerdi
 first-whole roll e =
     let s = firstPart roll in
     let b = begins roll e in
-    let some : 3 ≤ length s = omega (arith, first-some roll e) in
-    let q : SameHead roll s = rw (parts-join roll) at (head-front s (restPart roll) some) in
-    let whole : firstVerdict s ≡ Fine = begun s record { long = some; edition = sym (q .edition) ∙ b .edition; fine = sym (numbers-same q) ∙ b .fine; size = omega (arith, size-same q, first-long roll e) } in
-    sym (head-fine s whole (omega (arith, size-same q, first-long roll e)))
+    let size = first-long roll e in
+    let some : headBytes roll ≤ length s = omega (arith, size, size-bottom roll (b .fine)) in
+    let whole : headBytes (s ++ restPart roll) ≤ length s = rw (parts-join roll) some in
+    let q : SameHead roll s = rw (parts-join roll) at (head-part s (restPart roll) whole) in
+    let first : firstVerdict s ≡ Fine = begun s record {
+      long = omega (arith, first-some roll e);
+      known = rw (q .edition) at (b .known);
+      whole = rw (layout-same q) at some;
+      fine = sym (numbers-same q) ∙ b .fine;
+      size = omega (arith, size-same q, size);
+    } in
+    sym (head-fine s first (omega (arith, size-same q, size)))
 
 -- ---- with the longest slip in sight the rest of the roll changes nothing
 
 -- so many bytes are never short of their size
-unsized : (bytes : List ℕ) → longestSlip ≤ length bytes → (v : Verdict) → numbersVerdict (widthIn bytes) (depthIn bytes) (dimensionIn bytes) (countIn bytes) ≡ v
+unsized : (bytes : List ℕ) → longestSlip ≤ length bytes → (v : Verdict) → numbersIn bytes ≡ v
     → andThen v (refuse (ltb (length bytes) (sizeIn bytes)) SlipShort Fine) ≡ v
 unfolding andThen refuse
 unsized bytes l (Refused x) e = refl
 unsized bytes l Fine e = rw (le-ltb (length bytes) (sizeIn bytes) (omega (arith, header-top bytes e)))
 
 module _ (s t : List ℕ) (l : longestSlip ≤ length s) where
-  three : 3 ≤ length s
-  unfolding slipSize
-  three = omega arith
+  four : 4 ≤ length s
+  unfolding slipSize headBits
+  four = omega arith
+
+  sight-head : SameHead (s ++ t) s
+  sight-head = head-front s t (omega (arith, four, laid-in s .bytes-top))
 
   verdict-front : firstVerdict (s ++ t) ≡ firstVerdict s
-  unfolding firstVerdict
+  unfolding firstVerdictOf
   verdict-front =
-      let h = head-front s t three in
-      let l′ : longestSlip ≤ length (s ++ t) = omega (arith, length-append s t) in
-      rw (unsized (s ++ t) l′ _ refl, unsized s l _ refl, le-ltb (length (s ++ t)) 3 (omega (arith, three, length-append s t)), le-ltb (length s) 3 three, h .edition, numbers-same h)
+      let h = sight-head in
+      let more : length s ≤ length (s ++ t) = omega (arith, length-append s t) in
+      rw (unsized (s ++ t) (omega arith) _ refl, unsized s l _ refl, le-ltb (length (s ++ t)) 3 (omega (arith, four)), le-ltb (length s) 3 (omega (arith, four)), h .edition, numbers-same h)
+      (rw (le-ltb (length (s ++ t)) (headBytes (s ++ t)) (omega (arith, four, laid-in (s ++ t) .bytes-top)), le-ltb (length s) (headBytes s) (omega (arith, four, laid-in s .bytes-top))))
 
   part-front : (v : Verdict) → firstVerdict s ≡ v → firstPart (s ++ t) ≡ firstPart s
   part-front Fine e =
       first-found (s ++ t) (verdict-front ∙ e)
-      ∙ ap (λ n. take n (s ++ t)) (size-same (head-front s t three)) ∙ take-append-le (sizeIn s) s t (begins s e .size) ∙ sym (first-found s e)
+      ∙ ap (λ n. take n (s ++ t)) (size-same sight-head) ∙ take-append-le (sizeIn s) s t (begins s e .size) ∙ sym (first-found s e)
   part-front (Refused x) e = none-found (s ++ t) x (verdict-front ∙ e) ∙ sym (none-found s x e)
 
   pub in-sight : (answer (rollVerdict (s ++ t)) 0 ≡ answer (rollVerdict s) 0) × (firstPart (s ++ t) ≡ firstPart s)
   in-sight =
-      let e = sym (others-first (s ++ t) (λ z. omega (arith, three, length-append s t))) ∙ verdict-front ∙ others-first s (λ z. omega (arith, three)) in
+      let e = sym (others-first (s ++ t) (λ z. omega (arith, four, length-append s t))) ∙ verdict-front ∙ others-first s (λ z. omega (arith, four)) in
       (ap (λ v. answer v 0) e, part-front (firstVerdict s) refl)
 
 -- ---- the numbers

@@ -1,13 +1,14 @@
--- What the contracts of the two calls fix: one outcome each, no buffer changed by a refusal, a slip of at most 259 bytes, and
--- numbers that the reader never answers.
-use Prim.Native.Nat.{ℕ, _+_, _≤_}
+-- What the contracts of the two calls fix: one outcome each, no buffer changed by a refusal, a slip of at most 259 bytes in
+-- edition 1 and 484 in edition 2, and numbers that the reader never answers.
+use Prim.Native.Nat.{ℕ, _+_, _*_, _/_, _≤_}
 use mathlib.Core.Bool.{true, false}
 use mathlib.Core.Path.{_≡_, refl, ap, sym, _∙_}
 use mathlib.Core.List.{List}
+use native.Mathlib.Nat.{mul-le-mul, mul-le-mul-right}
 use native.Mathlib.Omega.{arith}
 use lib.ListN.{length}
 use Rattle.defs.specs.Refusal.{numberOf, number, answer}
-use Rattle.defs.specs.Slip.{longestSlip, slipOf}
+use Rattle.defs.specs.Slip.{layoutOf, headBits, slipSize, slipOf}
 use Rattle.defs.specs.Write.{writeVerdict, Written}
 use Rattle.defs.specs.Read.{readVerdict, reading, Read}
 use Rattle.defs.specs.declared.Refusal.{Refusal}
@@ -17,15 +18,18 @@ use Rattle.defs.specs.declared.Answer.{Answer}
 use Rattle.defs.specs.declared.Answer.the-variants.{Refused as No}
 use Rattle.defs.specs.declared.SlipRead.{SlipRead}
 use Rattle.theory.proofs.Verdict.{apart, answer-refused, kept-refused, Every}
-use Rattle.slip.proofs.Writer.{inside-width, writable, few, size-top}
+use Rattle.theory.proofs.Limits.{numbers-top}
+use Rattle.theory.proofs.Width.{width-top}
+use Rattle.slip.proofs.Layouts.{laid}
+use Rattle.slip.proofs.Writer.{within-limits, within-numbers, writable}
 use Rattle.line.proofs.Slips.{readers, read-every}
 use Rattle.line.proofs.Reading.{reading-answer}
 use Rattle.promises.proofs.RoundTrip.{length-slip}
 
 -- ---- two allowed outcomes are equal
 
-pub written-same : {m r k : ℕ} {points w bytes : List ℕ} {a b : Answer} {s t : List ℕ}
-    → Written m r k points w bytes a s → Written m r k points w bytes b t → (a ≡ b) × (s ≡ t)
+pub written-same : {edition m r k : ℕ} {points w bytes : List ℕ} {a b : Answer} {s t : List ℕ}
+    → Written edition m r k points w bytes a s → Written edition m r k points w bytes b t → (a ≡ b) × (s ≡ t)
 written-same x y = (cc (x .answers, y .answers), cc (x .leaves, y .leaves))
 
 pub read-same : {bytes points row : List ℕ} {a b : SlipRead} {s t u v : List ℕ}
@@ -34,7 +38,7 @@ read-same x y = (cc (x .answers, y .answers), cc (x .leaves-points, y .leaves-po
 
 -- ---- a refusal changes no buffer
 
-pub write-refused : {m r k : ℕ} {points w bytes : List ℕ} {x : Refusal} {bytes′ : List ℕ} → Written m r k points w bytes (No x) bytes′ → bytes′ ≡ bytes
+pub write-refused : {edition m r k : ℕ} {points w bytes : List ℕ} {x : Refusal} {bytes′ : List ℕ} → Written edition m r k points w bytes (No x) bytes′ → bytes′ ≡ bytes
 write-refused t = t .leaves ∙ kept-refused _ _ _ _ _ (sym (t .answers))
 
 -- the reader's answer is that of its checks
@@ -42,9 +46,9 @@ pub answered : {bytes points row : List ℕ} {s : SlipRead} {points′ row′ : 
     → s .answer ≡ answer (readVerdict bytes (length points) (length row)) 0
 answered {bytes} t = ap (λ (x : SlipRead). x .answer) (t .answers) ∙ reading-answer _ bytes
 
--- where it is refused its four numbers are 0
+-- where it is refused the edition and the four numbers are 0
 pub read-refused : {bytes points row : List ℕ} {s : SlipRead} {x : Refusal} {points′ row′ : List ℕ} → Read bytes points row s points′ row′ → s .answer ≡ No x
-    → (s ≡ record { answer = No x; m = 0; r = 0; count = 0; k = 0 }) × (points′ ≡ points) × (row′ ≡ row)
+    → (s ≡ record { answer = No x; edition = 0; m = 0; r = 0; count = 0; k = 0 }) × (points′ ≡ points) × (row′ ≡ row)
 unfolding reading
 read-refused {bytes} {points} {row} {s} {x} t e =
     let v = readVerdict bytes (length points) (length row) in
@@ -53,10 +57,26 @@ read-refused {bytes} {points} {row} {s} {x} t e =
 
 -- ---- the size of a slip
 
-pub slip-top : (m r k : ℕ) (points w : List ℕ) (size : ℕ) → writeVerdict m r k points w size ≡ Fine → length (slipOf m r k points w) ≤ longestSlip
-slip-top m r k points w size e =
-    let x = writable m r k points w size e in
-    rw length-slip (size-top m (length points + length w) (inside-width m r k points (x .inside)) (few m r k points w (x .inside) (x .row)))
+module _ (m r k : ℕ) (points w : List ℕ) (size : ℕ) where
+  -- the header, and a byte for each symbol of the longest row and for as many points
+  pub slip-top : (edition : ℕ) → writeVerdict edition m r k points w size ≡ Fine
+      → length (slipOf (layoutOf edition) m r k points w) ≤ headBits (layoutOf edition) / 8 + 2 * layoutOf edition .top
+  unfolding slipSize
+  slip-top edition e =
+      let L = layoutOf edition in
+      let x = writable edition m r k points w size e in
+      let n = within-limits L (laid edition) m r k points (x .within) .numbers in
+      let top = numbers-top (L .top) m r k (length points) (laid edition .top-low) (within-numbers L (laid edition) m r k points (x .within)) in
+      let few : length points + length w ≤ 2 * L .top = omega (arith, x .row, top, mul-le-mul-right (length points) (n .r-pos)) in
+      rw length-slip (omega (arith, mul-le-mul {n₁ = length points + length w} {m₁ = m} {n₂ = 2 * L .top} {m₂ = 8} few (width-top m (n .width))))
+
+  -- so at most 484 bytes, and in edition 1 at most 259
+  pub slip-longest : (edition : ℕ) → writeVerdict edition m r k points w size ≡ Fine → length (slipOf (layoutOf edition) m r k points w) ≤ 484
+  slip-longest edition e = omega (arith, slip-top edition e, laid edition .bytes-top, laid edition .top-low)
+
+  pub slip-old : writeVerdict 1 m r k points w size ≡ Fine → length (slipOf (layoutOf 1) m r k points w) ≤ 259
+  unfolding layoutOf headBits
+  slip-old e = slip-top 1 e
 
 -- ---- the reader never answers 2, 5 or 8
 

@@ -1,12 +1,12 @@
--- A slip that was read, into buffers of any length, gives a code inside the limits and a row that decode takes.
+-- A slip that was read, into buffers of any length, gives a code inside the limits, also those of its edition, and a row that decode takes.
 use Prim.Native.Nat.{ℕ, _*_}
 use mathlib.Core.Path.{_≡_, ap, sym, _∙_}
 use mathlib.Core.List.{List}
 use lib.ListN.{length, take}
 use Rattle.defs.specs.Refusal.{kept}
-use Rattle.defs.specs.Limits.{Inside}
+use Rattle.defs.specs.Limits.{Within, Inside}
 use Rattle.defs.specs.Decode.{decodeVerdict}
-use Rattle.defs.specs.Slip.{depthIn, countIn, pointsIn, rowIn}
+use Rattle.defs.specs.Slip.{layoutOf, layoutIn, depthIn, countIn, pointsIn, rowIn}
 use Rattle.defs.specs.Write.{front}
 use Rattle.defs.specs.Read.{readVerdict, reading, Read}
 use Rattle.defs.specs.declared.Verdict.{Verdict}
@@ -15,7 +15,7 @@ use Rattle.defs.specs.declared.Answer.the-variants.{Done}
 use Rattle.defs.specs.declared.SlipRead.{SlipRead}
 use Rattle.theory.proofs.Verdict.{answer-done}
 use Rattle.slip.proofs.Front.{take-front}
-use Rattle.slip.proofs.Taken.{length-points, length-row, inside, decodable}
+use Rattle.slip.proofs.Taken.{length-points, length-row, within, inside, decodable}
 use Rattle.promises.proofs.Slip.{answered}
 
 module _ (bytes points row points′ row′ : List ℕ) (s : SlipRead) (x : Read bytes points row s points′ row′) (d : ℕ) (done : s .answer ≡ Done d) where
@@ -41,6 +41,11 @@ module _ (bytes points row points′ row′ : List ℕ) (s : SlipRead) (x : Read
   pub read-inside : Inside (s .m) (s .r) (s .k) (take (s .count) points′)
   unfolding reading
   read-inside = rw (s-is, points-in) (inside bytes _ _ fine)
+
+  -- of at most 128 symbols in a row of edition 1, and 240 in one of edition 2
+  pub read-within : Within (layoutOf (s .edition) .top) (s .m) (s .r) (s .k) (take (s .count) points′)
+  unfolding reading layoutIn
+  read-within = rw (s-is, points-in) (within bytes _ _ fine)
 
   pub read-decodable : decodeVerdict (s .m) (s .r) (s .k) (take (s .count) points′) (take (s .r * s .count) row′) (s .k) (s .count) ≡ Fine
   unfolding reading

@@ -29,6 +29,7 @@ pub record Unpacked (p : ℕ) (s : SlipRead) : Type 0 where
   pub count-is : p / 2 ^ 24 % 2 ^ 8 ≡ s .count
   pub k-is : p / 2 ^ 32 % 2 ^ 8 ≡ s .k
   pub detail-is : p / 2 ^ 40 % 2 ^ 8 ≡ detail (s .answer)
+  pub edition-is : p / 2 ^ 48 % 2 ^ 8 ≡ s .edition
 
 pub read-unpacked : {bytes points row : List ℕ} {s : SlipRead} {points′ row′ : List ℕ}
     → Read bytes points row s points′ row′ → Unpacked (packedRead s) s
@@ -42,4 +43,5 @@ read-unpacked {s = s} x =
       count-is = omega arith;
       k-is = omega arith;
       detail-is = omega arith;
+      edition-is = omega arith;
     }

@@ -99,6 +99,7 @@ whole-walk (s ∷ slips) h left none (suc t) l =
 
 -- bytes that the writer left, where it was done
 pub record Made (s : List ℕ) : Type 0 where
+  pub edition : ℕ
   pub m : ℕ
   pub r : ℕ
   pub k : ℕ
@@ -107,13 +108,13 @@ pub record Made (s : List ℕ) : Type 0 where
   pub w : List ℕ
   pub bytes : List ℕ
   pub bytes′ : List ℕ
-  pub written : Written m r k points w bytes (Done d) bytes′
+  pub written : Written edition m r k points w bytes (Done d) bytes′
   pub is : s ≡ take d bytes′
 
 made-whole : (s : List ℕ) → Made s → headVerdict s ≡ Fine
-made-whole s x = rw (x .is) (written-whole (x .m) (x .r) (x .k) (x .d) (x .points) (x .w) (x .bytes) (x .bytes′) (x .written))
+made-whole s x = rw (x .is) (written-whole (x .edition) (x .m) (x .r) (x .k) (x .d) (x .points) (x .w) (x .bytes) (x .bytes′) (x .written))
 
--- A ROLL THAT THE WRITER MADE IS TAKEN APART INTO EXACTLY THE SLIPS WRITTEN, AND IS DONE
+-- A ROLL THAT THE WRITER MADE, OF SLIPS OF EITHER EDITION, IS TAKEN APART INTO EXACTLY THE SLIPS WRITTEN, AND IS DONE
 pub made-walk : (slips : List (List ℕ)) → ((i : ℕ) → i < length slips → Made (getD slips i [])) → walk (joined slips) ≡ record { slips = slips; left = []; ended = Fine }
 unfolding walk rollVerdict
 made-walk slips h =

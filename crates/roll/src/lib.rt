@@ -6,7 +6,7 @@ ghost use Rattle.defs.specs.Roll.{rollVerdict, firstPart, restPart};
 use defs::Answer;
 use defs::Verdict;
 
-// Nothing for an empty roll, and 10, 11, 1, 3, 4, 10 for another.
+// Nothing for an empty roll, and the checks of header and size for another.
 fn check_roll(roll: &[u8]) -> Verdict
     ensures { λ v. ⌜ v ≡ rollVerdict (now (roll .entry)) ⌝ }
 {

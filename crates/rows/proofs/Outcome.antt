@@ -98,7 +98,7 @@ module _ (r : ℕ) (u w : List ℕ) where
 -- ---- encode
 
 module _ (m r k : ℕ) (points message row : List ℕ) where
-  pub encode-refused : (x : Refusal) → codeVerdict m r k points ≡ Refused x → Encoded m r k points message row (No x) row
+  pub encode-refused : (x : Refusal) → codeVerdict longest m r k points ≡ Refused x → Encoded m r k points message row (No x) row
   unfolding encodeVerdict andThen answer kept
   encode-refused x e = record { answers = rw e; leaves = rw e }
 

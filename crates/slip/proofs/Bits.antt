@@ -115,6 +115,16 @@ pub number-fields : (w v x : ℕ) (t : List ℕ) → numberAt (w + v) 0 (bits w 
 number-fields w v x t =
     rw (number-split, number-field, ← number-past v 0 w x t) (ap (λ (p : ℕ). x % 2 ^ w * 2 ^ v + numberAt v p (bits w x ++ t)) (omega arith))
 
+-- a number, the field behind it and what is behind that: the field is put behind the number
+pub number-next : (h w v x : ℕ) (t : List ℕ) → x < 2 ^ w → h * 2 ^ (w + v) + numberAt (w + v) 0 (bits w x ++ t) ≡ (h * 2 ^ w + x) * 2 ^ v + numberAt v 0 t
+number-next h w v x t l =
+    rw (number-fields w v x t, mod-eq-of-lt l, pow-add, add-mul, ← mul-assoc) (sym (add-assoc (h * 2 ^ w * 2 ^ v) (x * 2 ^ v) (numberAt v 0 t)))
+
+-- equal fields one behind the other
+pub fields-same : (w v p : ℕ) (s t : List ℕ) → numberAt w p s ≡ numberAt w p t → numberAt v (p + w) s ≡ numberAt v (p + w) t
+    → numberAt (w + v) p s ≡ numberAt (w + v) p t
+fields-same w v p s t a b = rw (number-split w v p s, number-split w v p t, a, b)
+
 pub number-nil : (w p : ℕ) → numberAt w p [] ≡ 0
 unfolding numberAt
 number-nil zero p = refl

@@ -5,7 +5,8 @@ use mathlib.Core.List.{List}
 use lib.ListN.{length, take, drop}
 use lib.Seq.{take-at}
 use Rattle.defs.specs.Place.{tab}
-use Rattle.defs.specs.Slip.{allBits, numberAt, slipSize, slipBits, slipOf, widthIn, symbolsIn}
+use Rattle.defs.specs.Slip.{allBits, numberAt, headBits, slipSize, slipBits, slipOf, layoutIn, widthIn, symbolsIn}
+use Rattle.defs.specs.declared.Layout.{Layout}
 use Rattle.defs.specs.Write.{front}
 use Rattle.theory.specs.Fill.{filled}
 use Rattle.theory.proofs.Place.{length-tab}
@@ -23,12 +24,12 @@ front-filled : (d : List ℕ) (F : ℕ → ℕ) (n : ℕ) → filled d 0 F n ≡
 unfolding front
 front-filled d F n = filled-front d F n ∙ rw length-tab
 
-pub slip-filled : (m r k : ℕ) (points w d : List ℕ) (size : ℕ) → size ≡ slipSize m (length points + length w)
-    → filled d 0 (λ i. numberAt 8 (8 * i) (slipBits m r k points w)) size ≡ front (slipOf m r k points w) d
+pub slip-filled : (L : Layout) (m r k : ℕ) (points w d : List ℕ) (size : ℕ) → size ≡ slipSize L m (length points + length w)
+    → filled d 0 (λ i. numberAt 8 (8 * i) (slipBits L m r k points w)) size ≡ front (slipOf L m r k points w) d
 unfolding slipOf
-slip-filled m r k points w d size e = rw e (front-filled d _ _)
+slip-filled L m r k points w d size e = rw e (front-filled d _ _)
 
-pub symbols-filled : (m : ℕ) (bytes : List ℕ) (past n : ℕ) (d : List ℕ) → m ≡ widthIn bytes
-    → filled d 0 (λ j. numberAt m (24 + m * (past + j)) (allBits 8 bytes)) n ≡ front (symbolsIn bytes past n) d
+pub symbols-filled : (bytes : List ℕ) (start m past n : ℕ) (d : List ℕ) → start ≡ headBits (layoutIn bytes) → m ≡ widthIn bytes
+    → filled d 0 (λ j. numberAt m (start + m * (past + j)) (allBits 8 bytes)) n ≡ front (symbolsIn bytes past n) d
 unfolding symbolsIn
-symbols-filled m bytes past n d e = rw e (front-filled d _ _)
+symbols-filled bytes start m past n d s e = rw (s, e) (front-filled d _ _)

@@ -1,5 +1,6 @@
 -- The laws of slips.
 pub mod Bits
+pub mod Layouts
 pub mod HeaderBits
 pub mod Packed
 pub mod Front

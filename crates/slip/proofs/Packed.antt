@@ -1,4 +1,4 @@
--- Points and symbols in bytes, over the width: how a byte is packed, how a symbol is read out of its byte, and what bits the bytes of a slip have.
+-- Points and symbols in bytes, over the width and the layout: how a byte is packed, how a number is read out of bytes, and what bits the bytes of a slip have.
 use Prim.Native.Nat.{ℕ, _+_, _*_, _-_, _/_, _%_, _^_, _<_, _≤_}
 use mathlib.Core.Path.{_≡_, refl, ap, sym, _∙_}
 use mathlib.Core.List.{List, _++_}
@@ -9,11 +9,14 @@ use lib.ListN.{length, getD}
 use lib.Pow.{pow-mono}
 use Rattle.defs.specs.Field.{Width}
 use Rattle.defs.specs.Place.{tab, Symbols}
-use Rattle.defs.specs.Slip.{bits, allBits, numberAt, fieldCode, slipBits}
+use Rattle.defs.specs.Slip.{allBits, numberAt, headBits, slipBits}
+use Rattle.defs.specs.declared.Layout.{Layout}
 use Rattle.theory.proofs.Place.{tab-same}
 use Rattle.theory.proofs.Width.{by-width}
+use Rattle.slip.specs.Laid.{Laid}
 use Rattle.slip.specs.Head.{headerBits}
-use Rattle.slip.proofs.Bits.{symbols-append, bits-are, all-bits-are, number-same, number-below, number-split, number-inside, number-front, number-behind, number-symbol, symbols-told}
+use Rattle.slip.proofs.Bits.{length-all-bits, symbols-append, all-bits-are, number-same, number-below, number-split, number-inside, number-front, number-behind, number-beyond, number-symbol, symbols-told}
+use Rattle.slip.proofs.HeaderBits.{header-length, header-are, header-first}
 
 -- ---- a byte packed, a symbol a turn; left of its symbols are still to come
 
@@ -44,21 +47,25 @@ module _ (m i : ℕ) (s : List ℕ) (w : Width m) where
       (lt-of-lt-of-le (number-below (m * (8 / m - left)) (8 * i) (allBits m s) (all-bits-are m s))
       (pow-mono {j = 8} (omega (arith, whole m w, mul-le-mul-left {m = 8 / m - left} {n = 8 / m} m (omega arith)))))
 
--- ---- a symbol in its byte
-
-pub inside-byte : (j m : ℕ) → Width m → (24 + m * j) % 8 + m ≤ 8
-inside-byte j = by-width (λ m. (24 + m * j) % 8 + m ≤ 8) (omega arith) (omega arith) (omega arith)
+-- ---- a number in bytes
 
 pub byte-is : (bytes : List ℕ) → Symbols 8 bytes → (q : ℕ) → numberAt 8 (8 * q) (allBits 8 bytes) ≡ getD bytes q 0
 byte-is bytes s q = number-symbol 8 bytes q ∙ mod-eq-of-lt (s q)
 
-pub symbol-in-byte : (m j : ℕ) (bytes : List ℕ) → Width m → Symbols 8 bytes
-    → getD bytes ((24 + m * j) / 8) 0 / 2 ^ (8 - m - (24 + m * j) % 8) % 2 ^ m ≡ numberAt m (24 + m * j) (allBits 8 bytes)
-symbol-in-byte m j bytes w s =
-    let p = 24 + m * j in
-    let e : p % 8 + (m + (8 - m - p % 8)) ≡ 8 = omega (arith, inside-byte j m w) in
+pub byte-none : (bytes : List ℕ) (q : ℕ) → length bytes ≤ q → 0 ≡ numberAt 8 (8 * q) (allBits 8 bytes)
+byte-none bytes q l = sym (number-beyond 8 (8 * q) (allBits 8 bytes) (omega (arith, length-all-bits 8 bytes)))
+
+-- one of at most eight bits stands in a byte and the one behind it: what is behind the number is divided away, what is before it is cut off
+pub number-read : (w p : ℕ) (s : List ℕ) → Symbols 1 s → w ≤ 8 → (a b : ℕ) → a ≡ numberAt 8 (8 * (p / 8)) s → b ≡ numberAt 8 (8 * (p / 8 + 1)) s
+    → (a * 256 + b) / 2 ^ (16 - w - p % 8) % 2 ^ w ≡ numberAt w p s
+number-read w p s h l a b first second =
+    let e : p % 8 + (w + (16 - w - p % 8)) ≡ 16 = omega arith in
     let f : 8 * (p / 8) + p % 8 ≡ p = omega arith in
-    rw (← byte-is bytes s (p / 8), number-inside (p % 8) m (8 - m - p % 8) 8 (8 * (p / 8)) (allBits 8 bytes) e (all-bits-are 8 bytes), f)
+    let g : 8 * (p / 8 + 1) ≡ 8 * (p / 8) + 8 = omega arith in
+    let pair : numberAt 16 (8 * (p / 8)) s ≡ a * 256 + b = number-split 8 8 (8 * (p / 8)) s ∙ rw (first, second, g) in
+    ap (λ (x : ℕ). x / 2 ^ (16 - w - p % 8) % 2 ^ w) (sym pair)
+    ∙ number-inside (p % 8) w (16 - w - p % 8) 16 (8 * (p / 8)) s e h
+    ∙ ap (λ (x : ℕ). numberAt w x s) f
 
 -- ---- the bits of bytes that were made of bits
 
@@ -73,43 +80,32 @@ number-back w p n s h l = number-same w p p (allBits 8 (tab (λ i. numberAt 8 (8
 
 -- ---- the header and what is behind it
 
-pub header-length : (m r k count : ℕ) → length (headerBits m r k count) ≡ 24
-unfolding headerBits bits
-header-length m r k count = refl
+module _ (L : Layout) (m r k : ℕ) (points w : List ℕ) where
+  abbrev H : List ℕ
+  H = headerBits L m r k (length points)
 
-field-are : (v x : ℕ) (t : List ℕ) → Symbols 1 t → Symbols 1 (bits v x ++ t)
-field-are v x t h = symbols-append 1 (bits v x) t (bits-are v x) h
+  pub slip-bits-are : Symbols 1 (slipBits L m r k points w)
+  slip-bits-are = rw (header-first L m r k points w) (symbols-append 1 H (allBits m (points ++ w)) (header-are L m r k (length points)) (all-bits-are m (points ++ w)))
 
-header-are : (m r k count : ℕ) → Symbols 1 (headerBits m r k count)
-unfolding headerBits
-header-are m r k count =
-    let k-bits : List ℕ = bits 7 (k - 1) ++ bits 1 0 in
-    let count-bits : List ℕ = bits 7 (count - 1) ++ k-bits in
-    let r-bits : List ℕ = bits 3 (r - 1) ++ count-bits in
-    let m-bits : List ℕ = bits 2 (fieldCode m) ++ r-bits in
-    field-are 4 1 m-bits (field-are 2 (fieldCode m) r-bits (field-are 3 (r - 1) count-bits (field-are 7 (count - 1) k-bits (field-are 7 (k - 1) (bits 1 0) (bits-are 1 0)))))
+  pub in-header : (v p : ℕ) → p + v ≤ headBits L → numberAt v p (slipBits L m r k points w) ≡ numberAt v p H
+  in-header v p l =
+      rw (header-first L m r k points w) (number-front v p H (allBits m (points ++ w)) (omega (arith, header-length L m r k (length points))))
 
-module _ (m r k : ℕ) (points w : List ℕ) where
-  header-first : slipBits m r k points w ≡ headerBits m r k (length points) ++ allBits m (points ++ w)
-  unfolding slipBits headerBits bits
-  header-first = refl
-
-  pub slip-bits-are : Symbols 1 (slipBits m r k points w)
-  slip-bits-are = rw header-first (symbols-append 1 (headerBits m r k (length points)) (allBits m (points ++ w)) (header-are m r k (length points)) (all-bits-are m (points ++ w)))
-
-  pub in-header : (v p : ℕ) → p + v ≤ 24 → numberAt v p (slipBits m r k points w) ≡ numberAt v p (headerBits m r k (length points))
-  in-header v p l = rw header-first (number-front v p (headerBits m r k (length points)) (allBits m (points ++ w)) (omega (arith, header-length m r k (length points))))
-
-  pub behind-header : (v p : ℕ) → numberAt v (24 + p) (slipBits m r k points w) ≡ numberAt v p (allBits m (points ++ w))
-  behind-header v p = rw header-first (number-behind v p 24 (headerBits m r k (length points)) (allBits m (points ++ w)) (header-length m r k (length points)))
+  pub behind-header : (v p : ℕ) → numberAt v (headBits L + p) (slipBits L m r k points w) ≡ numberAt v p (allBits m (points ++ w))
+  behind-header v p =
+      rw (header-first L m r k points w) (number-behind v p (headBits L) H (allBits m (points ++ w)) (header-length L m r k (length points)))
 
   -- the two kinds of byte
-  pub header-byte : (i h : ℕ) → i < 3 → h ≡ numberAt 24 0 (headerBits m r k (length points)) → h / 2 ^ (16 - 8 * i) % 256 ≡ numberAt 8 (8 * i) (slipBits m r k points w)
-  header-byte i h l e =
-      rw (e, number-inside (8 * i) 8 (16 - 8 * i) 24 0 (headerBits m r k (length points)) (omega arith) (header-are m r k (length points)), zero-add)
-      (sym (in-header 8 (8 * i) (omega arith)))
+  module _ (laid : Laid L) (i : ℕ) where
+    pub header-byte : (h : ℕ) → i < headBits L / 8 → h ≡ numberAt (headBits L) 0 H
+        → h / 2 ^ (8 * (headBits L / 8 - 1 - i)) % 256 ≡ numberAt 8 (8 * i) (slipBits L m r k points w)
+    header-byte h l e =
+        let n = headBits L / 8 in
+        let split : 8 * i + (8 + 8 * (n - 1 - i)) ≡ headBits L = omega (arith, laid .whole) in
+        rw (e, number-inside (8 * i) 8 (8 * (n - 1 - i)) (headBits L) 0 H split (header-are L m r k (length points)), zero-add)
+        (sym (in-header 8 (8 * i) (omega arith)))
 
-  pub body-byte : (i : ℕ) → 3 ≤ i → numberAt 8 (8 * (i - 3)) (allBits m (points ++ w)) ≡ numberAt 8 (8 * i) (slipBits m r k points w)
-  body-byte i l =
-      let e : 8 * i ≡ 24 + 8 * (i - 3) = omega arith in
-      rw e (sym (behind-header 8 (8 * (i - 3))))
+    pub body-byte : headBits L / 8 ≤ i → numberAt 8 (8 * (i - headBits L / 8)) (allBits m (points ++ w)) ≡ numberAt 8 (8 * i) (slipBits L m r k points w)
+    body-byte l =
+        let e : 8 * i ≡ headBits L + 8 * (i - headBits L / 8) = omega (arith, laid .whole) in
+        rw e (sym (behind-header 8 (8 * (i - headBits L / 8))))

@@ -1,18 +1,18 @@
 -- The ways out of the slip reader, and what its own functions rely on.
-use Prim.Native.Nat.{ℕ, _+_, _*_, _<_, _≤_}
-use mathlib.Core.Path.{_≡_, sym, _∙_}
-use mathlib.Core.Bool.{_||_}
+use Prim.Native.Nat.{ℕ, _+_, _*_, _/_, _<_, _≤_}
+use mathlib.Core.Path.{_≡_, ap, sym, _∙_}
+use mathlib.Core.Bool.{true, false, _||_}
 use mathlib.Core.List.{List, []}
-use native.Mathlib.Nat.{mul-comm, mul-le-mul-left}
 use native.Mathlib.Omega.{arith}
 use lib.Dec.{ltb}
 use lib.ListN.{length, take}
-use borrow.Author.Tests.{lt-ltb, le-ltb, eq-eqb, ne-eqb, ltb-false, eqb-true, not-false}
+use borrow.Author.Tests.{lt-ltb, le-ltb, ltb-false, not-false}
 use Rattle.defs.specs.Refusal.{refuse, andThen, kept}
 use Rattle.defs.specs.Limits.{longest, numbersVerdict, firstTwice}
-use Rattle.defs.specs.Slip.{slipSize, longestSlip, editionIn, widthIn, depthIn, countIn, dimensionIn, sizeIn, symbolsIn, pointsIn, rowIn, spareIn, fillIn}
+use Rattle.defs.specs.Slip.{allBits, numberAt, widthOf, isEdition, layoutOf, headBits, slipSize, longestSlip, editionIn, layoutIn, widthIn, depthIn, countIn, dimensionIn, sizeIn, symbolsIn, pointsIn, rowIn, spareIn, fillIn}
 use Rattle.defs.specs.Write.{front}
-use Rattle.defs.specs.Read.{firstVerdict, headVerdict, readVerdict, reading, Read}
+use Rattle.defs.specs.Read.{firstVerdictOf, firstVerdict, headVerdict, readVerdict, reading, Read}
+use Rattle.defs.specs.declared.Layout.{Layout}
 use Rattle.defs.specs.declared.Refusal.{Refusal}
 use Rattle.defs.specs.declared.Refusal.the-variants.{PointTwice, Length, SlipShort, Edition, SlipLong, SlipBits}
 use Rattle.defs.specs.declared.Verdict.{Verdict}
@@ -23,57 +23,107 @@ use Rattle.theory.specs.Limits.{Numbers}
 use Rattle.theory.proofs.Limits.{numbers-known, count-small}
 use Rattle.theory.proofs.Verdict.{or-false, refuse-fine, then-fine}
 use Rattle.slip.specs.declared.Head.{Head}
+use Rattle.slip.specs.Laid.{Laid}
 use Rattle.slip.specs.Head.{Heads, Holds}
-use Rattle.slip.proofs.Writer.{size-top}
+use Rattle.slip.proofs.Bits.{all-bits-are, number-below}
+use Rattle.slip.proofs.Layouts.{laid, size-top}
 use Rattle.slip.proofs.Front.{length-symbols, take-front}
 
 -- ---- the checks of header and size
 
--- what a header that was read says of the numbers and the size
+-- 1, 3 and 4 on what stands in a header
+abbrev pub numbersIn : List ℕ → Verdict
+numbersIn bytes = numbersVerdict (layoutIn bytes .top) (widthIn bytes) (depthIn bytes) (dimensionIn bytes) (countIn bytes)
+
+pub laid-in : (bytes : List ℕ) → Laid (layoutIn bytes)
+unfolding layoutIn
+laid-in bytes = laid (editionIn bytes)
+
+-- an edition has four bits
+pub edition-low : (bytes : List ℕ) → editionIn bytes < 16
+unfolding editionIn
+edition-low bytes = number-below 4 0 (allBits 8 bytes) (all-bits-are 8 bytes)
+
+-- a header is read field by field
+pub heads-told : (bytes : List ℕ) (edition : ℕ) (L : Layout) (field m r count k : ℕ)
+    → edition ≡ numberAt 4 0 (allBits 8 bytes) → L ≡ layoutOf edition → field ≡ numberAt 2 4 (allBits 8 bytes) → m ≡ widthOf field
+    → r ≡ numberAt 3 6 (allBits 8 bytes) → count ≡ numberAt (L .countbits) 9 (allBits 8 bytes)
+    → k ≡ numberAt (L .kbits) (9 + L .countbits) (allBits 8 bytes)
+    → Heads bytes (record { edition = edition; layout = L; m = m; r = r + 1; count = count + 1; k = k + 1 })
+unfolding editionIn layoutIn widthIn depthIn countIn dimensionIn
+heads-told bytes edition L field m r count k e l f w d c q =
+    let at : L ≡ layoutOf (numberAt 4 0 (allBits 8 bytes)) = l ∙ ap layoutOf e in
+    record { edition-is = e; layout-is = at; m-is = rw (w, f); r-is = rw d; count-is = rw (c, at); k-is = rw (q, at) }
+
+-- what a header that was read says of the layout, the numbers and the size
 module _ (bytes : List ℕ) (h : Head) (s : Heads bytes h) where
-  pub numbers-in : numbersVerdict (h .m) (h .r) (h .k) (h .count) ≡ numbersVerdict (widthIn bytes) (depthIn bytes) (dimensionIn bytes) (countIn bytes)
-  numbers-in = rw (s .m-is, s .r-is, s .k-is, s .count-is)
+  pub head-laid : Laid (h .layout)
+  head-laid = rw (s .layout-is) (laid-in bytes)
 
-  pub size-in : slipSize (h .m) (h .count + h .r * h .count) ≡ sizeIn bytes
+  pub numbers-in : numbersVerdict (h .layout .top) (h .m) (h .r) (h .k) (h .count) ≡ numbersIn bytes
+  numbers-in = rw (s .layout-is, s .m-is, s .r-is, s .k-is, s .count-is)
+
+  pub size-in : slipSize (h .layout) (h .m) (h .count + h .r * h .count) ≡ sizeIn bytes
   unfolding sizeIn
-  size-in = rw (s .m-is, s .r-is, s .count-is)
+  size-in = rw (s .layout-is, s .m-is, s .r-is, s .count-is)
 
--- a header whose numbers are fine asks for no more bytes than the longest slip has
-pub header-top : (bytes : List ℕ) → numbersVerdict (widthIn bytes) (depthIn bytes) (dimensionIn bytes) (countIn bytes) ≡ Fine → sizeIn bytes ≤ longestSlip
-unfolding sizeIn
-header-top bytes e =
-    let n = numbers-known _ _ _ _ e in
-    size-top (widthIn bytes) (countIn bytes + depthIn bytes * countIn bytes) (n .width) (omega (arith, count-small n, n .row-top))
+-- a header whose numbers are fine
+module _ (bytes : List ℕ) (e : numbersIn bytes ≡ Fine) where
+  pub numbers-are : Numbers (widthIn bytes) (depthIn bytes) (dimensionIn bytes) (countIn bytes)
+  numbers-are = numbers-known (layoutIn bytes .top) _ _ _ _ (laid-in bytes .top-low) e
 
--- a header that was read, and is of edition 1
+  pub symbols-few : countIn bytes + depthIn bytes * countIn bytes ≤ 2 * longest
+  symbols-few = omega (arith, count-small numbers-are, numbers-are .row-top)
+
+  -- it asks for no more bytes than the longest slip has
+  pub header-top : sizeIn bytes ≤ longestSlip
+  unfolding sizeIn
+  header-top = size-top (layoutIn bytes) (laid-in bytes) (widthIn bytes) (countIn bytes + depthIn bytes * countIn bytes) (numbers-are .width) symbols-few
+
+-- a header that was read whole, and is of a known edition
 pub record Opened (bytes : List ℕ) (h : Head) : Type 0 where
   pub long : 3 ≤ length bytes
   pub heads : Heads bytes h
-  pub edition : h .edition ≡ 1
+  pub known : isEdition (h .edition) ≡ true
+  pub whole : headBits (h .layout) / 8 ≤ length bytes
 
 module _ (bytes : List ℕ) where
   pub first-short : length bytes < 3 → Refused SlipShort ≡ firstVerdict bytes
-  unfolding firstVerdict refuse
+  unfolding firstVerdictOf refuse
   first-short l = rw (lt-ltb (length bytes) 3 l)
 
-  pub first-edition : 3 ≤ length bytes → (h : Head) → Heads bytes h → (h .edition ≡ 1 → ⊥) → Refused Edition ≡ firstVerdict bytes
-  unfolding firstVerdict refuse
-  first-edition long h s n = rw (le-ltb (length bytes) 3 long, ← s .edition-is, ne-eqb (h .edition) 1 n)
+  module _ (long : 3 ≤ length bytes) (h : Head) (s : Heads bytes h) where
+    pub first-edition : isEdition (h .edition) ≡ false → Refused Edition ≡ firstVerdict bytes
+    unfolding firstVerdictOf refuse
+    first-edition n =
+        let e : isEdition (editionIn bytes) ≡ false = rw (s .edition-is) at n in
+        rw (le-ltb (length bytes) 3 long, e)
+
+    pub first-cut : isEdition (h .edition) ≡ true → length bytes < headBits (h .layout) / 8 → Refused SlipShort ≡ firstVerdict bytes
+    unfolding firstVerdictOf refuse
+    first-cut n l =
+        let e : isEdition (editionIn bytes) ≡ true = rw (s .edition-is) at n in
+        let c : length bytes < headBits (layoutIn bytes) / 8 = rw (s .layout-is) at l in
+        rw (le-ltb (length bytes) 3 long, e, lt-ltb (length bytes) (headBits (layoutIn bytes) / 8) c)
 
   module _ (h : Head) (o : Opened bytes h) where
     -- an opened header is judged by its numbers and its size
     by-numbers : firstVerdict bytes
-        ≡ andThen (numbersVerdict (h .m) (h .r) (h .k) (h .count)) (refuse (ltb (length bytes) (slipSize (h .m) (h .count + h .r * h .count))) SlipShort Fine)
-    unfolding firstVerdict refuse
+        ≡ andThen (numbersVerdict (h .layout .top) (h .m) (h .r) (h .k) (h .count))
+        (refuse (ltb (length bytes) (slipSize (h .layout) (h .m) (h .count + h .r * h .count))) SlipShort Fine)
+    unfolding firstVerdictOf refuse
     by-numbers =
         let s = o .heads in
-        rw (le-ltb (length bytes) 3 (o .long), ← s .edition-is, eq-eqb (h .edition) 1 (o .edition), numbers-in bytes h s, size-in bytes h s)
+        let e : isEdition (editionIn bytes) ≡ true = rw (s .edition-is) at (o .known) in
+        let c : headBits (layoutIn bytes) / 8 ≤ length bytes = rw (s .layout-is) at (o .whole) in
+        rw (le-ltb (length bytes) 3 (o .long), e, le-ltb (length bytes) (headBits (layoutIn bytes) / 8) c, numbers-in bytes h s, size-in bytes h s)
 
-    pub first-numbers : (x : Refusal) → numbersVerdict (h .m) (h .r) (h .k) (h .count) ≡ Refused x → Refused x ≡ firstVerdict bytes
+    pub first-numbers : (x : Refusal) → numbersVerdict (h .layout .top) (h .m) (h .r) (h .k) (h .count) ≡ Refused x → Refused x ≡ firstVerdict bytes
     unfolding andThen
     first-numbers x v = sym (by-numbers ∙ rw v)
 
-    module _ (f : numbersVerdict (h .m) (h .r) (h .k) (h .count) ≡ Fine) (size : ℕ) (q : size ≡ slipSize (h .m) (h .count + h .r * h .count)) where
+    module _ (f : numbersVerdict (h .layout .top) (h .m) (h .r) (h .k) (h .count) ≡ Fine)
+        (size : ℕ) (q : size ≡ slipSize (h .layout) (h .m) (h .count + h .r * h .count)) where
       pub first-small : length bytes < size → Refused SlipShort ≡ firstVerdict bytes
       unfolding andThen refuse
       first-small l = sym (by-numbers ∙ rw (f, ← q, lt-ltb (length bytes) size l))
@@ -99,30 +149,41 @@ module _ (bytes : List ℕ) where
 -- what they show of bytes that begin with a slip, and of a slip
 pub record Begins (bytes : List ℕ) : Type 0 where
   pub long : 3 ≤ length bytes
-  pub edition : editionIn bytes ≡ 1
-  pub fine : numbersVerdict (widthIn bytes) (depthIn bytes) (dimensionIn bytes) (countIn bytes) ≡ Fine
+  pub known : isEdition (editionIn bytes) ≡ true
+  pub whole : headBits (layoutIn bytes) / 8 ≤ length bytes
+  pub fine : numbersIn bytes ≡ Fine
   pub size : sizeIn bytes ≤ length bytes
 
 pub begins : (bytes : List ℕ) → firstVerdict bytes ≡ Fine → Begins bytes
-unfolding firstVerdict
+unfolding firstVerdictOf
 begins bytes e =
     let e1 = refuse-fine _ _ _ e in
     let e2 = refuse-fine _ _ _ (e1 .1) in
-    let e3 = then-fine (numbersVerdict (widthIn bytes) (depthIn bytes) (dimensionIn bytes) (countIn bytes)) _ (e2 .1) in
-    let e4 = refuse-fine _ _ _ (e3 .1) in
+    let e3 = refuse-fine _ _ _ (e2 .1) in
+    let e4 = then-fine (numbersIn bytes) _ (e3 .1) in
+    let e5 = refuse-fine _ _ _ (e4 .1) in
     record {
       long = ltb-false (length bytes) 3 (e1 .0);
-      edition = eqb-true (editionIn bytes) 1 (not-false _ (e2 .0));
-      fine = e3 .0;
-      size = ltb-false (length bytes) (sizeIn bytes) (e4 .0);
+      known = not-false _ (e2 .0);
+      whole = ltb-false (length bytes) (headBits (layoutIn bytes) / 8) (e3 .0);
+      fine = e4 .0;
+      size = ltb-false (length bytes) (sizeIn bytes) (e5 .0);
     }
 
 pub begun : (bytes : List ℕ) → Begins bytes → firstVerdict bytes ≡ Fine
-unfolding firstVerdict refuse andThen
-begun bytes b = rw (le-ltb (length bytes) 3 (b .long), eq-eqb (editionIn bytes) 1 (b .edition), b .fine, le-ltb (length bytes) (sizeIn bytes) (b .size))
+unfolding firstVerdictOf refuse andThen
+begun bytes b =
+    rw (
+      le-ltb (length bytes) 3 (b .long),
+      b .known,
+      le-ltb (length bytes) (headBits (layoutIn bytes) / 8) (b .whole),
+      b .fine,
+      le-ltb (length bytes) (sizeIn bytes) (b .size),
+    )
 
 pub record Sound (bytes : List ℕ) : Type 0 where
-  pub long : 3 ≤ length bytes
+  pub known : isEdition (editionIn bytes) ≡ true
+  pub fine : numbersIn bytes ≡ Fine
   pub numbers : Numbers (widthIn bytes) (depthIn bytes) (dimensionIn bytes) (countIn bytes)
   pub size : length bytes ≡ sizeIn bytes
 
@@ -132,8 +193,9 @@ sound bytes e =
     let e1 = then-fine (firstVerdict bytes) _ e in
     let b = begins bytes (e1 .0) in
     record {
-      long = b .long;
-      numbers = numbers-known _ _ _ _ (b .fine);
+      known = b .known;
+      fine = b .fine;
+      numbers = numbers-are bytes (b .fine);
       size = omega (arith, b .size, ltb-false (sizeIn bytes) (length bytes) (refuse-fine _ _ _ (e1 .1) .0));
     }
 
@@ -143,17 +205,12 @@ module _ (bytes : List ℕ) (s : Sound bytes) where
   pub points-few : countIn bytes ≤ longest
   points-few = count-small (s .numbers)
 
-  -- its size covers them
-  pub holds : (m past n : ℕ) → m ≡ widthIn bytes → past + n ≤ countIn bytes + depthIn bytes * countIn bytes → Holds bytes m past n
-  unfolding sizeIn slipSize
-  holds m past n e l =
-      let N = countIn bytes + depthIn bytes * countIn bytes in
-      record {
-        width = rw e (s .numbers .width);
-        m-is = e;
-        few = omega (arith, points-few, s .numbers .row-top);
-        enough = rw e (omega (arith, s .size, mul-comm (widthIn bytes) N, mul-le-mul-left {m = past + n} {n = N} (widthIn bytes) l));
-      }
+  pub holds : (h : Head) (past n : ℕ) → Heads bytes h → past + n ≤ countIn bytes + depthIn bytes * countIn bytes → Holds bytes h past n
+  holds h past n heads l = record {
+    heads = heads;
+    width = rw (heads .m-is) (s .numbers .width);
+    few = omega (arith, symbols-few bytes (s .fine));
+  }
 
 -- the search for a repeated point sees the points alone
 pub twice-seen : (bytes d found : List ℕ) (count : ℕ) → count ≡ countIn bytes → found ≡ front (symbolsIn bytes 0 count) d → firstTwice (take count found) ≡ firstTwice (pointsIn bytes)
@@ -165,9 +222,9 @@ module _ (bytes : List ℕ) (h : Head) (s : Heads bytes h) where
   pub row-size : h .r * h .count ≡ depthIn bytes * countIn bytes
   row-size = rw (s .r-is, s .count-is)
 
-  pub reading-done : record { answer = Done 0; m = h .m; r = h .r; count = h .count; k = h .k } ≡ reading Fine bytes
+  pub reading-done : record { answer = Done 0; edition = h .edition; m = h .m; r = h .r; count = h .count; k = h .k } ≡ reading Fine bytes
   unfolding reading
-  reading-done = rw (s .m-is, s .r-is, s .count-is, s .k-is)
+  reading-done = rw (s .edition-is, s .m-is, s .r-is, s .count-is, s .k-is)
 
   pub points-read : (points points′ : List ℕ) → points′ ≡ front (symbolsIn bytes 0 (h .count)) points → points′ ≡ front (pointsIn bytes) points
   unfolding pointsIn
@@ -227,10 +284,6 @@ module _ (bytes : List ℕ) (count n : ℕ) where
     pub read-checked : headVerdict bytes ≡ Fine
     unfolding readVerdict
     read-checked = then-fine _ _ e .0
-
-    pub read-edition : editionIn bytes ≡ 1
-    unfolding headVerdict
-    read-edition = begins bytes (then-fine (firstVerdict bytes) _ read-checked .0) .edition
 
     pub read-clean : spareIn bytes + fillIn bytes ≡ 0
     unfolding readVerdict

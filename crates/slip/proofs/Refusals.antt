@@ -8,7 +8,7 @@ use lib.Dec.{eqb, ltb}
 use borrow.Author.Tests.{ne-eqb, le-ltb}
 use Rattle.defs.specs.Limits.{deepest}
 use Rattle.defs.specs.Slip.{allBits, depthIn}
-use Rattle.defs.specs.Read.{firstVerdict}
+use Rattle.defs.specs.Read.{firstVerdictOf, firstVerdict}
 use Rattle.defs.specs.declared.Refusal.{Refusal}
 use Rattle.defs.specs.declared.Refusal.the-variants.{Field, Points, Dimension, SlipShort, Edition}
 use Rattle.theory.proofs.Verdict.{apart, Every, every-fine, every-plain, every-then}
@@ -26,11 +26,12 @@ never-deep r l h e =
     apart cc
 
 pub first-every : {P : Refusal → Type 0} (bytes : List ℕ) → P SlipShort → P Edition → P Field → P Points → P Dimension → Every P (firstVerdict bytes)
-unfolding firstVerdict
+unfolding firstVerdictOf
 first-every bytes short edition field points dimension =
     let d = depth-in bytes in
     every-plain _ _ _ short
     (every-plain _ _ _ edition
+    (every-plain _ _ _ short
     (every-then _ _
-    (numbers-every _ _ _ _ field (λ t. absurd (never-deep _ (d .0) (d .1) t)) points dimension)
-    (λ fine. every-plain _ _ _ short every-fine)))
+    (numbers-every _ _ _ _ _ field (λ t. absurd (never-deep _ (d .0) (d .1) t)) points dimension)
+    (λ fine. every-plain _ _ _ short every-fine))))

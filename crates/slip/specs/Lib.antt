@@ -1,2 +1,3 @@
 -- What the slip's own functions hand one another.
+pub mod Laid
 pub mod Head

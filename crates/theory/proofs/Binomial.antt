@@ -8,7 +8,7 @@ use native.Mathlib.Omega.{arith}
 use lib.Arith.{bin-ind}
 use lib.Bits.{bitOr, or-step, or-zero-r, or-shr, or-mod, or-add-and, and-le-r}
 use Rattle.defs.specs.Field.{binom}
-use Rattle.theory.specs.Bits.{Within}
+use Rattle.theory.specs.Bits.{BitsWithin}
 use Rattle.theory.proofs.Field.{two-pos, bit}
 use Rattle.theory.proofs.Formula.{binom-small}
 
@@ -101,63 +101,63 @@ bit-down : (n : ℕ) → n / 2 ^ 0 % 2 ≡ n % 2
 bit-down n = omega arith
 
 module _ (b a : ℕ) where
-  lowest : Within b a → b % 2 ≤ a % 2
-  unfolding Within
+  lowest : BitsWithin b a → b % 2 ≤ a % 2
+  unfolding BitsWithin
   lowest w = bit-order (b % 2) (a % 2) (mod-lt b two-pos) (λ e. sym (bit-down a) ∙ w 0 (bit-down b ∙ e))
 
-  within-half : Within b a → Within (b / 2) (a / 2)
-  unfolding Within
+  within-half : BitsWithin b a → BitsWithin (b / 2) (a / 2)
+  unfolding BitsWithin
   within-half w i e = bit-up a i ∙ w (suc i) (sym (bit-up b i) ∙ e)
 
-  within-join : b % 2 ≤ a % 2 → Within (b / 2) (a / 2) → Within b a
-  unfolding Within
+  within-join : b % 2 ≤ a % 2 → BitsWithin (b / 2) (a / 2) → BitsWithin b a
+  unfolding BitsWithin
   within-join h w zero e = omega (arith, bit-down a, bit-down b)
   within-join h w (suc i) e = sym (bit-up a i) ∙ w i (bit-up b i ∙ e)
 
-none-within : (a : ℕ) → Within 0 a
-unfolding Within
+none-within : (a : ℕ) → BitsWithin 0 a
+unfolding BitsWithin
 none-within a i e = absurd (omega (arith, ap (λ (x : ℕ). x % 2) (zero-div (2 ^ i))))
 
 -- ---- the formula
 
-pub odd-within : (a b : ℕ) → binom a b % 2 ≡ 1 → Within b a
-odd-within a b = bin-ind (λ (n : ℕ). (a : ℕ) → binom a n % 2 ≡ 1 → Within n a) (λ a e. none-within a) (λ n ih a e. go n ih a e (decLt (a % 2) (n % 2))) b a
+pub odd-within : (a b : ℕ) → binom a b % 2 ≡ 1 → BitsWithin b a
+odd-within a b = bin-ind (λ (n : ℕ). (a : ℕ) → binom a n % 2 ≡ 1 → BitsWithin n a) (λ a e. none-within a) (λ n ih a e. go n ih a e (decLt (a % 2) (n % 2))) b a
   where
-    go : (n : ℕ) → ((a : ℕ) → binom a (n / 2) % 2 ≡ 1 → Within (n / 2) a) → (a : ℕ) → binom a n % 2 ≡ 1 → Dec (a % 2 < n % 2) → Within n a
+    go : (n : ℕ) → ((a : ℕ) → binom a (n / 2) % 2 ≡ 1 → BitsWithin (n / 2) a) → (a : ℕ) → binom a n % 2 ≡ 1 → Dec (a % 2 < n % 2) → BitsWithin n a
     go n ih a e (yes l) = absurd (omega (arith, halves-out a n l))
     go n ih a e (no l) = let h : n % 2 ≤ a % 2 = omega arith in within-join n a h (ih (a / 2) (sym (halves-in a n h) ∙ e))
 
-pub within-odd : (a b : ℕ) → Within b a → binom a b % 2 ≡ 1
+pub within-odd : (a b : ℕ) → BitsWithin b a → binom a b % 2 ≡ 1
 unfolding binom
 within-odd a b =
-    bin-ind (λ (n : ℕ). (a : ℕ) → Within n a → binom a n % 2 ≡ 1) (λ a w. refl)
+    bin-ind (λ (n : ℕ). (a : ℕ) → BitsWithin n a → binom a n % 2 ≡ 1) (λ a w. refl)
     (λ n ih a w. halves-in a n (lowest n a w) ∙ ih (a / 2) (within-half n a w)) b a
 
 pub self-odd : (j : ℕ) → binom j j % 2 ≡ 1
-unfolding Within
+unfolding BitsWithin
 self-odd j = within-odd j j (λ i e. e)
 
 -- ---- the next upper number
 
 -- a number that has the bits of j already
-or-within : (j i : ℕ) → Within j i → bitOr i j ≡ i
+or-within : (j i : ℕ) → BitsWithin j i → bitOr i j ≡ i
 or-within =
-    bin-ind (λ (n : ℕ). (i : ℕ) → Within n i → bitOr i n ≡ i) (λ i w. or-zero-r i)
+    bin-ind (λ (n : ℕ). (i : ℕ) → BitsWithin n i → bitOr i n ≡ i) (λ i w. or-zero-r i)
     (λ n ih i w. or-step i n ∙ omega (arith, ih (i / 2) (within-half n i w), lowest n i w))
 
-within-or : (j i : ℕ) → Within j (bitOr i j)
-unfolding Within
+within-or : (j i : ℕ) → BitsWithin j (bitOr i j)
+unfolding BitsWithin
 within-or j i n e =
     ap (λ (x : ℕ). x % 2) (or-shr i j n) ∙ or-mod (i / 2 ^ n) (j / 2 ^ n) 1
     ∙ ap (bitOr (i / 2 ^ n % 2)) e ∙ bit (λ x. bitOr x 1 ≡ 1) refl refl (i / 2 ^ n)
 
 -- where i has the bits of j, so has i + 1 with those of j, and no number between
-next-least : (j i c : ℕ) → Within j i → Within j c → i < c → bitOr (i + 1) j ≤ c
+next-least : (j i c : ℕ) → BitsWithin j i → BitsWithin j c → i < c → bitOr (i + 1) j ≤ c
 next-least =
-    bin-ind (λ (n : ℕ). (i c : ℕ) → Within n i → Within n c → i < c → bitOr (i + 1) n ≤ c) (λ i c w v l. rw (or-zero-r (i + 1)) (omega arith))
+    bin-ind (λ (n : ℕ). (i c : ℕ) → BitsWithin n i → BitsWithin n c → i < c → bitOr (i + 1) n ≤ c) (λ i c w v l. rw (or-zero-r (i + 1)) (omega arith))
     (λ n ih i c w v l. rw (or-step (i + 1) n) (go n ih i c w v l (decLt 0 (i % 2))))
   where
-    go : (n : ℕ) → ((i c : ℕ) → Within (n / 2) i → Within (n / 2) c → i < c → bitOr (i + 1) (n / 2) ≤ c) → (i c : ℕ) → Within n i → Within n c → i < c
+    go : (n : ℕ) → ((i c : ℕ) → BitsWithin (n / 2) i → BitsWithin (n / 2) c → i < c → bitOr (i + 1) (n / 2) ≤ c) → (i c : ℕ) → BitsWithin n i → BitsWithin n c → i < c
         → Dec (0 < i % 2) → bitOr ((i + 1) / 2) (n / 2) * 2 + max ((i + 1) % 2) (n % 2) ≤ c
     go n ih i c w v l (yes o) =
         let h : (i + 1) / 2 ≡ i / 2 + 1 = omega arith in

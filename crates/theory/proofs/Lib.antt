@@ -7,6 +7,7 @@ pub mod Place
 pub mod Fill
 pub mod Verdict
 pub mod Limits
+pub mod Layouts
 pub mod Sum
 pub mod Linear
 pub mod Leibniz

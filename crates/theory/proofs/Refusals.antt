@@ -11,19 +11,21 @@ use Rattle.defs.specs.Refusal.{placeOf, andThen}
 use Rattle.defs.specs.Limits.{deepest, longest, numbersVerdict, firstTwice, codeVerdict}
 use Rattle.defs.specs.Encode.{symbolsVerdict, encodeVerdict, distanceVerdict}
 use Rattle.defs.specs.Decode.{decodeVerdict}
+use Rattle.defs.specs.Slip.{layoutOf}
 use Rattle.defs.specs.Write.{writeVerdict}
 use Rattle.defs.specs.declared.Refusal.{Refusal}
-use Rattle.defs.specs.declared.Refusal.the-variants.{Field, Depth, Points, Dimension, PointHigh, PointTwice, Length, SymbolHigh}
+use Rattle.defs.specs.declared.Refusal.the-variants.{Field, Depth, Points, Dimension, PointHigh, PointTwice, Length, SymbolHigh, Edition}
 use Rattle.defs.specs.declared.Verdict.{Verdict}
 use Rattle.theory.specs.Limits.{Numbers}
-use Rattle.theory.proofs.Limits.{numbers-known, inside-known, count-small}
+use Rattle.theory.proofs.Layouts.{layout-top}
+use Rattle.theory.proofs.Limits.{numbers-known, within-known, count-small}
 use Rattle.theory.proofs.Verdict.{Every, every-fine, every-refuse, every-then, every-plain, every-place, every-length}
 
 -- 1 to 4, where 2 is known by its test
-pub numbers-every : {P : Refusal → Type 0} (m r k count : ℕ)
-    → P Field → (eqb r 0 || ltb deepest r ≡ true → P Depth) → P Points → P Dimension → Every P (numbersVerdict m r k count)
+pub numbers-every : {P : Refusal → Type 0} (top m r k count : ℕ)
+    → P Field → (eqb r 0 || ltb deepest r ≡ true → P Depth) → P Points → P Dimension → Every P (numbersVerdict top m r k count)
 unfolding numbersVerdict
-numbers-every m r k count field depth points dimension =
+numbers-every top m r k count field depth points dimension =
     every-plain _ _ _ field
     (every-refuse _ _ _ depth (λ t. every-plain _ _ _ points (every-plain _ _ _ dimension every-fine)))
 
@@ -38,37 +40,39 @@ module _ {P : Refusal → Type 0} (low : (x : Refusal) → placeOf x < longest �
   distance-every r n n′ = every-plain _ _ _ (low Depth (lit< tt)) (every-plain _ _ _ (low Length (lit< tt)) every-fine)
 
   module _ (m r k : ℕ) (points : List ℕ) where
-    code-every : Every P (codeVerdict m r k points)
+    code-every : (top : ℕ) → top ≤ longest → Every P (codeVerdict top m r k points)
     unfolding codeVerdict
-    code-every =
-        every-then (numbersVerdict m r k (length points)) _
-        (numbers-every m r k (length points) (low Field (lit< tt)) (λ t. low Depth (lit< tt)) (low Points (lit< tt)) (low Dimension (lit< tt)))
-        (λ fine. let few : length points ≤ longest = count-small (numbers-known m r k (length points) fine) in
+    code-every top small =
+        every-then (numbersVerdict top m r k (length points)) _
+        (numbers-every top m r k (length points) (low Field (lit< tt)) (λ t. low Depth (lit< tt)) (low Points (lit< tt)) (low Dimension (lit< tt)))
+        (λ fine. let few : length points ≤ longest = count-small (numbers-known top m r k (length points) small fine) in
         every-place (firstHigh m points) (length points) _ _ (λ l. low (PointHigh _) (omega arith))
         (every-place (firstTwice points) (length points) _ _ (λ l. low (PointTwice _) (omega arith)) every-fine))
 
     -- the checks behind those of the code know its limits
-    pub behind-code : (v : Verdict) → (Numbers m r k (length points) → Every P v) → Every P (andThen (codeVerdict m r k points) v)
-    behind-code v rest = every-then _ v code-every (λ inside. rest (inside-known m r k points inside .numbers))
+    behind-code : (top : ℕ) → top ≤ longest → (v : Verdict) → (Numbers m r k (length points) → Every P v)
+        → Every P (andThen (codeVerdict top m r k points) v)
+    behind-code top small v rest = every-then _ v (code-every top small) (λ fine. rest (within-known top m r k points small fine .numbers))
 
     pub encode-every : (message : List ℕ) (size : ℕ) → Every P (encodeVerdict m r k points message size)
     unfolding encodeVerdict
     encode-every message size =
-        behind-code _
+        behind-code longest (omega arith) _
         (λ n. every-length (length message) k _ _ (low Length (lit< tt))
         (λ e. every-plain _ _ _ (low Length (lit< tt)) (symbols-every m message (omega (arith, n .k-top, n .row-top)))))
 
     pub decode-every : (w : List ℕ) (size count : ℕ) → Every P (decodeVerdict m r k points w size count)
     unfolding decodeVerdict
     decode-every w size count =
-        behind-code _
+        behind-code longest (omega arith) _
         (λ n. every-length (length w) (r * length points) _ _ (low Length (lit< tt))
         (λ e. every-plain _ _ _ (low Length (lit< tt))
         (every-plain _ _ _ (low Length (lit< tt)) (symbols-every m w (omega (arith, n .row-top))))))
 
-    pub write-every : (w : List ℕ) (size : ℕ) → Every P (writeVerdict m r k points w size)
+    pub write-every : (edition : ℕ) (w : List ℕ) (size : ℕ) → Every P (writeVerdict edition m r k points w size)
     unfolding writeVerdict
-    write-every w size =
-        behind-code _
+    write-every edition w size =
+        every-plain _ _ _ (low Edition (lit< tt))
+        (behind-code (layoutOf edition .top) (layout-top edition) _
         (λ n. every-length (length w) (r * length points) _ _ (low Length (lit< tt))
-        (λ e. every-plain _ _ _ (low Length (lit< tt)) (symbols-every m w (omega (arith, n .row-top)))))
+        (λ e. every-plain _ _ _ (low Length (lit< tt)) (symbols-every m w (omega (arith, n .row-top))))))

@@ -15,7 +15,7 @@ fn main() -> Result<(), Refusal> {
     let mut row = [0; 12];
     encode(code, &[3, 1, 4, 1, 5, 9], &mut row)?;
     let mut slip = [0; MAX_SLIP];
-    let size = slip_write(code, &row, &mut slip)?;
+    let size = slip_write(1, code, &row, &mut slip)?;
     println!("slip     {:02x?}", &slip[..size]);
 
     // The first symbol behind the 3 bytes of header and the 6 points of 4 bits.

@@ -34,6 +34,7 @@ pub mod c {
             b_len: usize,
         ) -> u64;
         pub fn plq_slip_write(
+            edition: usize,
             m: usize,
             r: usize,
             k: usize,

@@ -25,12 +25,17 @@
 //! one whose first symbol is wrong is damaged to depth r, one whose last alone is wrong to depth 1. The distance of
 //! two rows is the sum over their chunks.
 //!
+//! # Editions
+//!
+//! A slip stores a code and a row. There are two layouts: edition 1 holds rows of at most 128 symbols, edition 2 of at most 240.
+//! [`slip_write`] is told which one to write; [`slip_read`] says which one it found, and [`slips`] takes both, also mixed.
+//!
 //! # Calls
 //!
 //! The functions here are the proved functions of the archive `libplq.a`, on slices. Nothing need be checked before a
 //! call, no call panics on any input, and a refused call leaves every buffer as it was. An answer of a newer archive that
-//! this crate does not know is a refusal too, [`Refusal::Unknown`]. Where several refusals hold,
-//! the one with the smallest [number](Refusal::number) is given; [`slip_read`] and [`slips`] have an order of their own.
+//! this crate does not know is a refusal too, [`Refusal::Unknown`]. Where several refusals hold, the one that is tried first is
+//! given, and each call says its order by their [numbers](Refusal::number).
 //! No call allocates memory or has state, and all may be made from any number of threads.
 
 #![deny(missing_docs)]
@@ -47,11 +52,11 @@ use archive::c;
 use word::{done, header};
 
 /// The most symbols that a row has.
-pub const MAX_ROW: usize = 128;
+pub const MAX_ROW: usize = 240;
 /// The most bytes that a slip has.
-pub const MAX_SLIP: usize = 259;
+pub const MAX_SLIP: usize = 484;
 /// The most bytes that a line has, with its newline.
-pub const MAX_LINE: usize = 776;
+pub const MAX_LINE: usize = 1448;
 
 /// A code, as every call takes it; the call checks it.
 ///
@@ -81,6 +86,8 @@ impl Code<'_> {
 /// What stands in the header of a slip.
 #[derive(Clone, Copy, Debug, PartialEq, Eq)]
 pub struct Header {
+    /// The edition of the slip, 1 or 2.
+    pub edition: usize,
     /// Bits of a symbol.
     pub m: usize,
     /// Symbols in a chunk.
@@ -95,7 +102,7 @@ pub struct Header {
 ///
 /// # Errors
 ///
-/// Numbers 1 to 8; `row` is then as it was.
+/// Numbers 1 to 8, tried in this order; `row` is then as it was.
 ///
 /// ```
 /// use plq::{encode, Code, Refusal};
@@ -132,7 +139,7 @@ pub fn encode(code: Code, message: &[u8], row: &mut [u8]) -> Result<(), Refusal>
 ///
 /// # Errors
 ///
-/// Numbers 1 to 9; both buffers are then as they were.
+/// Numbers 1 to 9, tried in this order; both buffers are then as they were.
 ///
 /// ```
 /// use plq::{decode, Code, Refusal};
@@ -185,27 +192,38 @@ pub fn distance(r: usize, a: &[u8], b: &[u8]) -> Result<usize, Refusal> {
     done(unsafe { c::plq_distance(r, a.as_ptr(), a.len(), b.as_ptr(), b.len()) })
 }
 
-/// Writes a code and a row of n symbols as a slip to the front of `bytes`, and gives the slip's size.
+/// Writes a code and a row of n symbols as a slip of `edition` to the front of `bytes`, and gives the slip's size.
 ///
-/// The size is 3 + ceil((n' + n) m / 8) for n' points, at most [`MAX_SLIP`]. Bytes behind the slip are kept.
+/// Edition 1 takes codes with n at most 128. The size is ceil((n' + n) m / 8) for n' points and the header's 3 bytes in edition 1,
+/// 4 in edition 2; at most [`MAX_SLIP`]. Bytes behind the slip are kept.
 ///
 /// # Errors
 ///
-/// Numbers 1 to 8; `bytes` is then as it was.
+/// Number 11 on the edition, then 1 to 8, tried in this order; `bytes` is then as it was.
 ///
 /// ```
-/// use plq::{slip_write, Code};
+/// use plq::{slip_write, Code, Refusal};
 ///
 /// let code = Code { m: 2, r: 2, k: 4, points: &[0, 1, 2, 3] };
+/// let row = [1, 3, 0, 3, 2, 3, 2, 0];
 /// let mut bytes = [0; plq::MAX_SLIP];
-/// let size = slip_write(code, &[1, 3, 0, 3, 2, 3, 2, 0], &mut bytes)?;
+/// let size = slip_write(1, code, &row, &mut bytes)?;
 /// assert_eq!(bytes[..size], [0x10, 0x83, 0x06, 0x1b, 0x73, 0xb8]);
+/// let size = slip_write(2, code, &row, &mut bytes)?;
+/// assert_eq!(bytes[..size], [0x20, 0x81, 0x81, 0x80, 0x1b, 0x73, 0xb8]);
+/// assert_eq!(slip_write(3, code, &row, &mut bytes), Err(Refusal::SlipEdition));
 /// # Ok::<(), plq::Refusal>(())
 /// ```
-pub fn slip_write(code: Code, row: &[u8], bytes: &mut [u8]) -> Result<usize, Refusal> {
+pub fn slip_write(
+    edition: usize,
+    code: Code,
+    row: &[u8],
+    bytes: &mut [u8],
+) -> Result<usize, Refusal> {
     // SAFETY: each pointer comes with the length of the slice it was taken from; `bytes` is borrowed alone.
     let answer = unsafe {
         c::plq_slip_write(
+            edition,
             code.m,
             code.r,
             code.k,
@@ -220,17 +238,17 @@ pub fn slip_write(code: Code, row: &[u8], bytes: &mut [u8]) -> Result<usize, Ref
     done(answer)
 }
 
-/// Reads the slip in `bytes`, which must end where the slip ends. The row is not decoded.
+/// Reads the slip in `bytes`, of either edition, which must end where the slip ends. The row is not decoded.
 ///
-/// One code and one row have one slip: bytes that are read are those that [`slip_write`] makes from what was read.
+/// One code and one row have one slip in each edition: bytes that are read are those that [`slip_write`] makes from what was read.
 ///
 /// Writes the points and the row to the fronts of the two buffers; bytes behind them are kept.
 /// [`MAX_ROW`] bytes are enough for either.
 ///
 /// # Errors
 ///
-/// Tried in this order: fewer than 3 bytes 10, then 11, 1, 3, 4, shorter than its size 10, then 12, 13, 6, 7.
-/// Both buffers are then as they were.
+/// Tried in this order: fewer than 3 bytes 10, then 11, edition 2 and fewer than 4 bytes 10, then 1, 3, 4, shorter than its size
+/// 10, then 12, 13, 6, 7. Both buffers are then as they were.
 ///
 /// ```
 /// use plq::{slip_read, Header, Refusal, MAX_ROW};
@@ -238,13 +256,16 @@ pub fn slip_write(code: Code, row: &[u8], bytes: &mut [u8]) -> Result<usize, Ref
 /// let mut slip = [0x10, 0x83, 0x06, 0x1b, 0x73, 0xb8];
 /// let (mut points, mut row) = ([0; MAX_ROW], [0; MAX_ROW]);
 /// let header = slip_read(&slip, &mut points, &mut row)?;
-/// assert_eq!(header, Header { m: 2, r: 2, k: 4, count: 4 });
+/// assert_eq!(header, Header { edition: 1, m: 2, r: 2, k: 4, count: 4 });
 /// assert_eq!(points[..header.count], [0, 1, 2, 3]);
 /// assert_eq!(row[..header.r * header.count], [1, 3, 0, 3, 2, 3, 2, 0]);
 /// assert_eq!(slip_read(&slip[..5], &mut points, &mut row), Err(Refusal::SlipShort));
 ///
 /// slip[2] |= 1; // the spare bit, last of the header
 /// assert_eq!(slip_read(&slip, &mut points, &mut row), Err(Refusal::SlipBits));
+///
+/// let same = [0x20, 0x81, 0x81, 0x80, 0x1b, 0x73, 0xb8];
+/// assert_eq!(slip_read(&same, &mut points, &mut row)?, Header { edition: 2, ..header });
 /// # Ok::<(), plq::Refusal>(())
 /// ```
 pub fn slip_read(bytes: &[u8], points: &mut [u8], row: &mut [u8]) -> Result<Header, Refusal> {

@@ -21,7 +21,7 @@ pub enum Refusal {
     Field,
     /// 2: r is 0 or above 8.
     Depth,
-    /// 3: there are no points, more than 2^m, or n is above [`MAX_ROW`](crate::MAX_ROW).
+    /// 3: there are no points, more than 2^m, or n is above [`MAX_ROW`](crate::MAX_ROW); for a slip of edition 1, above 128.
     Points,
     /// 4: k is 0 or above n.
     MessageLength,
@@ -44,13 +44,13 @@ pub enum Refusal {
     },
     /// 9: no message has a row within floor((n - k) / 2).
     TooFar,
-    /// 10: the slip is shorter than 3 bytes or than its own size.
+    /// 10: the slip is shorter than 3 bytes, its header or its own size.
     SlipShort,
-    /// 11: the slip is not of edition 1.
+    /// 11: the edition of the slip, or the one asked for, is neither 1 nor 2.
     SlipEdition,
     /// 12: the slip is longer than its own size.
     SlipLong,
-    /// 13: a spare or fill bit of the slip is not 0.
+    /// 13: a zero or fill bit of the slip is not 0.
     SlipBits,
     /// A number that this crate does not know: the archive is newer than the crate.
     Unknown {
@@ -129,9 +129,9 @@ impl fmt::Display for Refusal {
             Refusal::SymbolHigh { index } => write!(out, "symbol {index} is 2^m or more"),
             Refusal::TooFar => write!(out, "no message is near enough"),
             Refusal::SlipShort => write!(out, "the slip is too short"),
-            Refusal::SlipEdition => write!(out, "the slip is of another edition"),
+            Refusal::SlipEdition => write!(out, "the edition is neither 1 nor 2"),
             Refusal::SlipLong => write!(out, "the slip is too long"),
-            Refusal::SlipBits => write!(out, "a spare or fill bit of the slip is not 0"),
+            Refusal::SlipBits => write!(out, "a zero or fill bit of the slip is not 0"),
             Refusal::Unknown { number, detail } => {
                 write!(out, "the unknown number {number}, detail {detail}")
             }

@@ -8,13 +8,14 @@ use std::iter::FusedIterator;
 /// The slips of a roll, slips saved one behind another, in their order.
 ///
 /// Each slip is a part of the roll. Where one is refused, the refusal is the last item, and [`Slips::rest`] is what stands
-/// from there on. An empty roll has no slips. Spare bit, points, row and fill are not looked at:
+/// from there on. An empty roll has no slips. Slips of both editions may be mixed. Zero bits, points, row and fill are not looked at:
 /// [`slip_read`](crate::slip_read) and [`line`](crate::line) take each slip found, and may refuse it for another reason,
 /// such as 13 or 6.
 ///
 /// # Errors
 ///
-/// Tried at each slip in this order: fewer than 3 bytes 10, then 11, 1, 3, 4, shorter than its size 10. Never 12.
+/// Tried at each slip in this order: fewer than 3 bytes 10, then 11, edition 2 and fewer than 4 bytes 10, then 1, 3, 4, shorter
+/// than its size 10. Never 12.
 ///
 /// ```
 /// let slip = [0x10, 0x83, 0x06, 0x1b, 0x73, 0xb8];

@@ -17,6 +17,7 @@ pub fn header(word: u64) -> Result<Header, Refusal> {
     match Refusal::new(word as u8, part(40)) {
         Some(refusal) => Err(refusal),
         None => Ok(Header {
+            edition: part(48),
             m: part(8),
             r: part(16),
             count: part(24),
@@ -56,13 +57,14 @@ mod tests {
 
     #[test]
     fn done_words_give_their_parts() {
-        assert_eq!(done(776 << 8), Ok(776));
+        assert_eq!(done(1448 << 8), Ok(1448));
         let expected = Header {
+            edition: 2,
             m: 4,
             r: 2,
             count: 3,
             k: 5,
         };
-        assert_eq!(header(0x05_0302_0400), Ok(expected));
+        assert_eq!(header(0x0002_0005_0302_0400), Ok(expected));
     }
 }

@@ -1,6 +1,6 @@
 //! Each refusal comes through with its number and place, and a refused call keeps its buffers.
 
-use plq::{decode, distance, encode, line, slip_read, slip_write, Code, Refusal};
+use plq::{decode, distance, encode, line, slip_read, slip_write, Code, Refusal, MAX_SLIP};
 
 fn code(m: usize, r: usize, k: usize, points: &[u8]) -> Code<'_> {
     Code { m, r, k, points }
@@ -80,14 +80,18 @@ fn decode_refuses_a_row_too_far() {
 fn distance_refuses_with_2_and_7() {
     assert_eq!(distance(0, &[], &[]), Err(Refusal::Depth));
     assert_eq!(distance(1, &[], &[]), Err(Refusal::Length));
-    assert_eq!(distance(1, &[0; 129], &[0; 129]), Err(Refusal::Length));
+    assert_eq!(distance(1, &[0; 240], &[0; 240]), Ok(0));
+    assert_eq!(distance(1, &[0; 241], &[0; 241]), Err(Refusal::Length));
 }
 
 #[test]
 fn the_reader_refuses_in_its_own_order() {
     let read = |bytes: &[u8]| slip_read(bytes, &mut [0xEE; 1], &mut [0xEE; 1]).err();
     assert_eq!(read(&[]), Some(Refusal::SlipShort));
-    assert_eq!(read(&[0x20, 0, 0]), Some(Refusal::SlipEdition));
+    assert_eq!(read(&[0x30, 0, 0]), Some(Refusal::SlipEdition));
+    // Field code 3, but too short for a header of edition 2.
+    assert_eq!(read(&[0x2C, 0, 0]), Some(Refusal::SlipShort));
+    assert_eq!(read(&[0x2C, 0, 0, 0]), Some(Refusal::Field));
     assert_eq!(read(&[0x1C, 0, 0]), Some(Refusal::Field));
     // 5 points in the field of 4.
     assert_eq!(read(&[0x10, 4, 0]), Some(Refusal::Points));
@@ -107,14 +111,21 @@ fn the_reader_refuses_in_its_own_order() {
     assert_eq!(read(&[0x10, 1, 0, 0x10]), Some(Refusal::Length));
 }
 
-/// The spare bit and each of the four fill bits of the smallest slip: the point 0 and the symbol 1 of 2 bits each.
+/// The spare bit of edition 1, each of the seven zero bits of edition 2, and each of the four fill bits of the smallest slip: the
+/// point 0 and the symbol 1 of 2 bits each.
 #[test]
 fn a_bit_that_holds_nothing_is_refused_and_buffers_are_kept() {
-    let good = [0x10, 0, 0, 0x10];
-    let changes = [(2, 1), (3, 8), (3, 4), (3, 2), (3, 1), (3, 15)];
-    let (mut points, mut row) = ([0xEE; 1], [0xEE; 1]);
-    for (place, bits) in changes {
-        let mut slip = good;
+    let fill = |place| [8, 4, 2, 1, 15].map(|bits| (place, bits)).into_iter();
+    let zeros = (0..7).map(|bit| (3, 1 << bit));
+    let old = fill(3)
+        .chain([(2, 1)])
+        .map(|change| (vec![0x10, 0, 0, 0x10], change));
+    let new = fill(4)
+        .chain(zeros)
+        .map(|change| (vec![0x20, 0, 0, 0, 0x10], change));
+    for (good, (place, bits)) in old.chain(new) {
+        let (mut points, mut row) = ([0xEE; 1], [0xEE; 1]);
+        let mut slip = good.clone();
         slip[place] |= bits;
         let answer = slip_read(&slip, &mut points, &mut row);
         assert_eq!(answer, Err(Refusal::SlipBits), "{slip:02x?}");
@@ -122,15 +133,49 @@ fn a_bit_that_holds_nothing_is_refused_and_buffers_are_kept() {
         let mut text = [0xEE; 6];
         assert_eq!(line(&slip, &mut text), Ok(5), "{slip:02x?}");
         assert_eq!(&text, b"13 0\n\xEE");
+        assert!(slip_read(&good, &mut points, &mut row).is_ok());
+        assert_eq!((points, row), ([0], [1]));
     }
-    assert!(slip_read(&good, &mut points, &mut row).is_ok());
-    assert_eq!((points, row), ([0], [1]));
+}
+
+/// 11 is tried first, and edition 1 keeps 128 symbols.
+#[test]
+fn the_writer_is_told_an_edition() {
+    let points: Vec<u8> = (0..=255).collect();
+    let mut bytes = [0xEE; MAX_SLIP];
+    let huge = [usize::MAX, 1 << 63, (1 << 32) + 2, 257, 258];
+    for edition in (0..18)
+        .filter(|edition| !matches!(edition, 1 | 2))
+        .chain(huge)
+    {
+        let answer = slip_write(edition, code(3, 9, 0, &[]), &[9], &mut bytes);
+        assert_eq!(answer, Err(Refusal::SlipEdition), "{edition}");
+    }
+    for (edition, count) in [(1, 129), (1, 240), (2, 241)] {
+        let answer = slip_write(
+            edition,
+            code(8, 1, 1, &points[..count]),
+            &points[..count],
+            &mut bytes,
+        );
+        assert_eq!(answer, Err(Refusal::Points), "{count} in edition {edition}");
+    }
+    assert_eq!(bytes, [0xEE; MAX_SLIP]);
+    for (edition, count, size) in [(1, 128, 259), (2, 128, 260), (2, 129, 262), (2, 240, 484)] {
+        let answer = slip_write(
+            edition,
+            code(8, 1, 1, &points[..count]),
+            &points[..count],
+            &mut bytes,
+        );
+        assert_eq!(answer, Ok(size), "{count} in edition {edition}");
+    }
 }
 
 #[test]
 fn a_short_buffer_is_refused_and_kept() {
     let mut bytes = [0xEE; 3];
-    let answer = slip_write(code(2, 1, 1, &[0]), &[3], &mut bytes);
+    let answer = slip_write(1, code(2, 1, 1, &[0]), &[3], &mut bytes);
     assert_eq!((answer, bytes), (Err(Refusal::Length), [0xEE; 3]));
     let mut text = [0xEE; 4];
     assert_eq!(line(&[], &mut text), Err(Refusal::Length));
@@ -140,6 +185,8 @@ fn a_short_buffer_is_refused_and_kept() {
 #[test]
 fn a_longer_buffer_keeps_the_rest() {
     let mut bytes = [0xEE; 6];
-    assert_eq!(slip_write(code(2, 1, 1, &[0]), &[3], &mut bytes), Ok(4));
+    assert_eq!(slip_write(1, code(2, 1, 1, &[0]), &[3], &mut bytes), Ok(4));
     assert_eq!(bytes, [0x10, 0, 0, 0x30, 0xEE, 0xEE]);
+    assert_eq!(slip_write(2, code(2, 1, 1, &[0]), &[3], &mut bytes), Ok(5));
+    assert_eq!(bytes, [0x20, 0, 0, 0, 0x30, 0xEE]);
 }

@@ -1,43 +1,47 @@
-//! Every call has room on the stack of a small thread, and calls from several threads do not meet.
+//! The calls that work in long buffers have room on the stack of a small thread, and calls from several threads do not meet.
 
 use plq::{decode, encode, line, slip_read, slip_write, Code, MAX_LINE, MAX_ROW, MAX_SLIP};
 use std::thread;
 
-const SMALL_STACK: usize = 64 * 1024;
+const SMALL_STACK: usize = 128 * 1024;
+/// Half of the longest row is the message, and so a quarter of it can be mended.
+const K: usize = MAX_ROW / 2;
+const RADIUS: usize = MAX_ROW / 4;
 
 /// A constant message has the same symbol everywhere in its row if chunks have one symbol.
-/// The first 32 symbols of 128 are then damaged, which is the most that k = 64 allows.
+/// The first 60 symbols of 240 are then damaged, which is the most that k = 120 allows.
 fn decodes_the_longest_row(symbol: u8) {
     let points: [u8; MAX_ROW] = std::array::from_fn(|i| i as u8);
     let code = Code {
         m: 8,
         r: 1,
-        k: 64,
+        k: K,
         points: &points,
     };
-    let mut sent = [0; 64];
+    let mut sent = [0; K];
     sent[0] = symbol;
     let mut row = [0; MAX_ROW];
     assert_eq!(encode(code, &sent, &mut row), Ok(()));
     assert_eq!(row, [symbol; MAX_ROW]);
-    row[..32].iter_mut().for_each(|damaged| *damaged ^= 0xFF);
-    let (mut message, mut depths) = ([0; 64], [0; MAX_ROW]);
-    assert_eq!(decode(code, &row, &mut message, &mut depths), Ok(32));
+    let damaged = row[..RADIUS].iter_mut();
+    damaged.for_each(|symbol| *symbol ^= 0xFF);
+    let (mut message, mut depths) = ([0; K], [0; MAX_ROW]);
+    assert_eq!(decode(code, &row, &mut message, &mut depths), Ok(RADIUS));
     assert_eq!(message, sent);
-    let damaged = |i: usize| u8::from(i < 32);
+    let damaged = |i: usize| u8::from(i < RADIUS);
     assert_eq!(depths, std::array::from_fn(damaged));
     reads_its_slip(code, &row);
 }
 
 fn reads_its_slip(code: Code, row: &[u8]) {
     let mut slip = [0; MAX_SLIP];
-    assert_eq!(slip_write(code, row, &mut slip), Ok(MAX_SLIP));
+    assert_eq!(slip_write(2, code, row, &mut slip), Ok(MAX_SLIP));
     let (mut points, mut read) = ([0; MAX_ROW], [0; MAX_ROW]);
     assert!(slip_read(&slip, &mut points, &mut read).is_ok());
     assert_eq!((&points[..], &read[..]), (code.points, row));
     let mut text = [0; MAX_LINE];
     assert!(line(&slip, &mut text).is_ok());
-    assert!(text.starts_with(b"0 32 | "));
+    assert!(text.starts_with(b"0 60 | "));
 }
 
 fn on_small_stack(call: impl FnOnce() + Send + 'static) -> thread::JoinHandle<()> {
@@ -46,7 +50,7 @@ fn on_small_stack(call: impl FnOnce() + Send + 'static) -> thread::JoinHandle<()
 }
 
 #[test]
-fn sixty_four_kibibytes_of_stack_are_enough() {
+fn a_hundred_and_twenty_eight_kibibytes_of_stack_are_enough() {
     let thread = on_small_stack(|| decodes_the_longest_row(7));
     thread.join().expect("the calls were done");
 }

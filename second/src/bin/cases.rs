@@ -3,7 +3,7 @@
 //! `cases DIRECTORY [SEED]` writes `cases.bin` and `expected.txt` there. The same seed gives the same files; with the usual
 //! one they are `stdin` and `stdout` of `crates/cases`, which runs them through the proved calls.
 //! The cases worked by hand come first, then random ones. `frame` says how a case is framed; the answer to each is one
-//! line: number and detail, for the slip reader also m, r, count and k, then the final bytes of each buffer in
+//! line: number and detail, for the slip reader also edition, m, r, count and k, then the final bytes of each buffer in
 //! hexadecimal, `-` for an empty one, with single spaces between.
 
 use second::call::{Call, Kind};
@@ -13,7 +13,7 @@ use std::path::Path;
 use std::process::ExitCode;
 
 const USUAL_SEED: u64 = 7;
-const RANDOM_CASES: usize = 5_000;
+const RANDOM_CASES: usize = 2_800;
 /// No file of cases is longer.
 const MOST_BYTES: usize = 450_000;
 /// No slice is longer: the program that runs the cases has room for so many bytes.

@@ -2,7 +2,10 @@
 
 use crate::call::RawCode;
 use crate::random::Random;
-use crate::reference::code::{Code, DEEPEST, LONGEST_ROW};
+use crate::reference::code::{Code, DEEPEST};
+
+/// Lengths of rows on both sides of each limit.
+pub const AROUND_LIMITS: [usize; 6] = [127, 128, 129, 239, 240, 241];
 
 /// How the lengths of rows are drawn.
 #[derive(Clone, Copy, Debug, PartialEq, Eq)]
@@ -13,18 +16,23 @@ pub enum Sizes {
     MostlyShort,
 }
 
-pub fn code(random: &mut Random, sizes: Sizes) -> Code {
-    let m = random.pick(&[2, 4, 8]);
-    let longest = longest_row(random, sizes);
-    let by_length = if random.percent(50) {
-        by_length(random, m, longest)
+/// A code whose rows have at most `longest` symbols.
+pub fn code(random: &mut Random, sizes: Sizes, longest: usize) -> Code {
+    let bound = bound(random, sizes).min(longest);
+    let way = random.below(100);
+    let (m, r, count) = if way < 50 {
+        let n = if way < 6 {
+            around_limits(random, 1, longest)
+        } else {
+            random.between(1, bound)
+        };
+        of_length(random, n)
     } else {
-        None
+        by_depth(random, bound)
     };
-    let (r, count) = by_length.unwrap_or_else(|| by_depth(random, m, longest));
     let k = message_length(random, r * count);
     let points = points(random, m, count);
-    Code::check(m, r, k, &points).expect("a code drawn within the limits")
+    Code::check_within(longest, m, r, k, &points).expect("a code drawn within the limits")
 }
 
 pub fn raw(code: &Code) -> RawCode {
@@ -36,17 +44,26 @@ pub fn raw(code: &Code) -> RawCode {
     }
 }
 
-fn longest_row(random: &mut Random, sizes: Sizes) -> usize {
+/// One of the lengths around the limits, if it is from `least` to `most`.
+pub fn around_limits(random: &mut Random, least: usize, most: usize) -> usize {
+    let fits = |length: &usize| (least..=most).contains(length);
+    let lengths: Vec<usize> = AROUND_LIMITS.into_iter().filter(fits).collect();
+    random.pick(&lengths)
+}
+
+/// In most cases no row drawn is longer.
+fn bound(random: &mut Random, sizes: Sizes) -> usize {
     match (sizes, random.below(100)) {
         (Sizes::MostlyShort, 0..60) => 16,
         (Sizes::MostlyShort, 60..82) => 32,
         (Sizes::MostlyShort, 82..93) => 64,
-        _ => LONGEST_ROW,
+        _ => usize::MAX,
     }
 }
 
-/// A depth, then a number of chunks, often the most there can be.
-fn by_depth(random: &mut Random, m: usize, longest: usize) -> (usize, usize) {
+/// A field and a depth, then a number of chunks, often the most there can be.
+fn by_depth(random: &mut Random, longest: usize) -> (usize, usize, usize) {
+    let m = random.pick(&[2, 4, 8]);
     let r = random.between(1, DEEPEST);
     let most = (longest / r).min(1 << m);
     let count = if random.percent(25) {
@@ -54,19 +71,18 @@ fn by_depth(random: &mut Random, m: usize, longest: usize) -> (usize, usize) {
     } else {
         random.between(1, most)
     };
-    (r, count)
+    (m, r, count)
 }
 
-/// A length of the row, then one of the depths that divide it, so that every length is met.
-fn by_length(random: &mut Random, m: usize, longest: usize) -> Option<(usize, usize)> {
-    let n = random.between(1, longest);
-    let fits = |r: &usize| n % r == 0 && n / r <= 1 << m;
-    let depths: Vec<usize> = (1..=DEEPEST).filter(fits).collect();
-    if depths.is_empty() {
-        return None;
-    }
-    let r = random.pick(&depths);
-    Some((r, n / r))
+/// One of the fields and depths that have rows of n symbols, so that every length is met.
+pub fn of_length(random: &mut Random, n: usize) -> (usize, usize, usize) {
+    let sizes = [2, 4, 8]
+        .into_iter()
+        .flat_map(|m| (1..=DEEPEST).map(move |r| (m, r)));
+    let fits = |(m, r): &(usize, usize)| n % r == 0 && n / r <= 1 << m;
+    let sizes: Vec<(usize, usize)> = sizes.filter(fits).collect();
+    let (m, r) = random.pick(&sizes);
+    (m, r, n / r)
 }
 
 /// Any length up to n, often one of the ends or the middle.

@@ -133,13 +133,14 @@ fn least_difference(random: &mut Random, code: &Code) -> Vec<u8> {
 mod tests {
     use super::*;
     use crate::generate::codes::{self, Sizes};
+    use crate::reference::code::LONGEST_ROW;
     use crate::reference::rows::row_distance;
 
     #[test]
     fn damage_has_the_depth_asked_for() {
         let mut random = Random::new(1);
         for _ in 0..2000 {
-            let code = codes::code(&mut random, Sizes::Even);
+            let code = codes::code(&mut random, Sizes::Even, LONGEST_ROW);
             let row = sent(&mut random, &code);
             let total = random.between(0, code.row_length());
             let mut hurt = row.clone();
@@ -152,7 +153,7 @@ mod tests {
     fn the_least_difference_is_one_more_than_n_less_k() {
         let mut random = Random::new(2);
         for _ in 0..300 {
-            let code = codes::code(&mut random, Sizes::Even);
+            let code = codes::code(&mut random, Sizes::Even, LONGEST_ROW);
             let row = row_of(&code, &least_difference(&mut random, &code));
             let zero = vec![0; row.len()];
             let distance = row_distance(code.r, &row, &zero);

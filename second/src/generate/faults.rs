@@ -1,5 +1,7 @@
-//! Faults put into a call that takes a code: one for each refusal from 1 to 8.
+//! Faults put into a call that takes a code: one for each refusal from 1 to 8, and 11 for one that takes an edition.
 
+use super::codes;
+use super::header::layout;
 use crate::call::{Call, Kind};
 use crate::random::Random;
 use crate::reference::code::{DEEPEST, LONGEST_ROW};
@@ -15,9 +17,10 @@ pub enum Fault {
     Points,
     Depth,
     Field,
+    Edition,
 }
 
-const ALL: [Fault; 8] = [
+const ALL: [Fault; 9] = [
     Fault::Symbol,
     Fault::Length,
     Fault::PointTwice,
@@ -26,11 +29,14 @@ const ALL: [Fault; 8] = [
     Fault::Points,
     Fault::Depth,
     Fault::Field,
+    Fault::Edition,
 ];
 
 /// Puts `count` random faults into `call`, which was fine so far.
 pub fn put_in(random: &mut Random, call: &mut Call, count: usize) {
-    let mut faults = ALL;
+    let has_edition = call.kind == Kind::SlipWrite;
+    let mut faults = ALL.to_vec();
+    faults.retain(|fault| has_edition || *fault != Fault::Edition);
     random.shuffle(&mut faults);
     let chosen = &mut faults[..count];
     chosen.sort();
@@ -40,15 +46,20 @@ pub fn put_in(random: &mut Random, call: &mut Call, count: usize) {
 }
 
 fn put_one_in(random: &mut Random, call: &mut Call, fault: Fault) {
+    let [m, r, k] = call.code_numbers();
     match fault {
-        Fault::Field => call.numbers[0] = bad_field(random, call.numbers[0]),
-        Fault::Depth => call.numbers[1] = bad_depth(random, call.numbers[1]),
+        Fault::Edition => call.numbers[0] = bad_edition(random, call.numbers[0]),
+        Fault::Field => call.set_code_numbers([bad_field(random, m), r, k]),
+        Fault::Depth => call.set_code_numbers([m, bad_depth(random, r), k]),
         Fault::Points => bad_points(random, call),
-        Fault::MessageLength => call.numbers[2] = bad_message_length(random, call),
-        Fault::PointHigh => raise(random, call.numbers[0], &mut call.inputs[0]),
+        Fault::MessageLength => {
+            let n = r * call.inputs[0].len();
+            call.set_code_numbers([m, r, bad_message_length(random, n, k)]);
+        }
+        Fault::PointHigh => raise(random, m, &mut call.inputs[0]),
         Fault::PointTwice => repeat(random, &mut call.inputs[0]),
         Fault::Length => bad_length(random, call),
-        Fault::Symbol => raise(random, call.numbers[0], &mut call.inputs[1]),
+        Fault::Symbol => raise(random, m, &mut call.inputs[1]),
     }
 }
 
@@ -86,26 +97,47 @@ fn bad_field(random: &mut Random, m: usize) -> usize {
     }
 }
 
-fn bad_message_length(random: &mut Random, call: &Call) -> usize {
-    let n = call.numbers[1] * call.inputs[0].len();
+/// Those that four bits hold, and others.
+fn bad_edition(random: &mut Random, edition: usize) -> usize {
+    match random.below(16) {
+        1 | 2 => extreme(random, edition),
+        other => other,
+    }
+}
+
+fn bad_message_length(random: &mut Random, n: usize, k: usize) -> usize {
     match random.below(4) {
         0 => 0,
         1 => n + 1,
         2 => n + random.between(1, 200),
-        _ => extreme(random, call.numbers[2]),
+        _ => extreme(random, k),
     }
 }
 
-/// No points, more than the field has, or more than the longest row has room for.
+/// The longest row that the call takes.
+fn longest_row(call: &Call) -> usize {
+    match call.kind {
+        Kind::SlipWrite => layout(call.numbers[0]).longest_row,
+        _ => LONGEST_ROW,
+    }
+}
+
+/// No points, more than the field has, more than the longest row has room for, or a row just beyond a limit.
 fn bad_points(random: &mut Random, call: &mut Call) {
-    let m = call.numbers[0];
-    let r = call.numbers[1];
-    let points = &mut call.inputs[0];
-    let least = match random.below(3) {
-        0 => return points.clear(),
+    let [m, r, k] = call.code_numbers();
+    let longest = longest_row(call);
+    let least = match random.below(5) {
+        0 => return call.inputs[0].clear(),
         1 => (1 << m) + 1,
-        _ => (LONGEST_ROW / r).min(1 << m) + 1,
+        2 => (longest / r).min(1 << m) + 1,
+        _ => {
+            let n = codes::around_limits(random, longest + 1, usize::MAX);
+            let (m, r, count) = codes::of_length(random, n);
+            call.set_code_numbers([m, r, k]);
+            return call.inputs[0].resize(count, 0);
+        }
     };
+    let points = &mut call.inputs[0];
     let most = if random.percent(80) {
         least
     } else {

@@ -3,14 +3,16 @@
 pub mod codes;
 pub mod damage;
 mod faults;
+pub mod header;
 pub mod rolls;
 pub mod slips;
 
-use crate::call::{Call, Kind, RawCode};
+use crate::call::{Call, Header, Kind, RawCode};
 use crate::random::Random;
 use crate::reference::code::{DEEPEST, LONGEST_ROW};
 use crate::reference::{line, slip};
 use codes::Sizes;
+use header::{layout, EDITIONS};
 
 /// What is known of a call from the way it was made.
 #[derive(Clone, Copy, Debug, PartialEq, Eq)]
@@ -29,18 +31,18 @@ pub struct Made {
     pub origin: Origin,
 }
 
-/// A buffer with room for every line: 128 symbols of three digits and 128 depths with their spaces.
-const ROOMY_TEXT: usize = 800;
+/// A buffer with room for every line: 240 symbols of three digits and 240 depths with their spaces.
+const ROOMY_TEXT: usize = 1500;
 
-/// How many of 108 cases are of each kind.
+/// How many of 113 cases are of each kind.
 const SHARES: [(Kind, usize); Kind::ALL.len()] = [
     (Kind::Encode, 12),
     (Kind::Decode, 24),
     (Kind::Distance, 7),
-    (Kind::SlipWrite, 9),
+    (Kind::SlipWrite, 12),
     (Kind::SlipRead, 12),
     (Kind::Line, 36),
-    (Kind::RollFirst, 8),
+    (Kind::RollFirst, 10),
 ];
 
 /// Case `index` of the run with this seed.
@@ -100,7 +102,7 @@ fn fine(random: &mut Random, kind: Kind) -> Made {
 }
 
 fn fine_encode(random: &mut Random) -> Made {
-    let code = codes::code(random, Sizes::Even);
+    let code = codes::code(random, Sizes::Even, LONGEST_ROW);
     let message = damage::message(random, &code);
     let row = random.bytes(code.row_length());
     Made {
@@ -110,7 +112,7 @@ fn fine_encode(random: &mut Random) -> Made {
 }
 
 fn fine_decode(random: &mut Random) -> Made {
-    let code = codes::code(random, Sizes::MostlyShort);
+    let code = codes::code(random, Sizes::MostlyShort, LONGEST_ROW);
     let received = damage::received(random, &code);
     let message = random.bytes(code.k);
     let depths = random.bytes(code.points.len());
@@ -126,12 +128,19 @@ fn fine_decode(random: &mut Random) -> Made {
 }
 
 fn fine_write(random: &mut Random) -> Made {
-    let code = codes::code(random, Sizes::Even);
+    let edition = random.pick(&EDITIONS);
+    let code = codes::code(random, Sizes::Even, layout(edition).longest_row);
     let row = random.symbols(code.row_length(), code.field.size());
-    let size = slip::size(code.field.bits(), code.r, code.points.len());
+    let size = header::size(Header {
+        edition,
+        m: code.field.bits(),
+        r: code.r,
+        count: code.points.len(),
+        k: code.k,
+    });
     let room = roomy(random, size);
     Made {
-        call: Call::slip_write(codes::raw(&code), row, random.bytes(room)),
+        call: Call::slip_write(edition, codes::raw(&code), row, random.bytes(room)),
         origin: Origin::Any,
     }
 }
@@ -157,7 +166,7 @@ fn wild(random: &mut Random, kind: Kind) -> Call {
     match kind {
         Kind::Encode => Call::encode(code, symbols, first),
         Kind::Decode => Call::decode(code, symbols, first, second),
-        _ => Call::slip_write(code, symbols, first),
+        _ => Call::slip_write(wild_number(random, 2), code, symbols, first),
     }
 }
 
@@ -179,7 +188,11 @@ fn wild_slice(random: &mut Random) -> Vec<u8> {
 /// Two rows of any bytes, near each other or not; in some cases r or a length is wrong, or both.
 fn distance(random: &mut Random) -> Call {
     let mut r = random.between(1, DEEPEST);
-    let count = random.between(1, LONGEST_ROW / r);
+    let mut count = random.between(1, LONGEST_ROW / r);
+    if random.percent(10) {
+        let n = codes::around_limits(random, 1, usize::MAX);
+        (_, r, count) = codes::of_length(random, n);
+    }
     let mut a = random.bytes(r * count);
     let mut b = near(random, &a);
     if random.percent(15) {
@@ -207,7 +220,7 @@ fn near(random: &mut Random, a: &[u8]) -> Vec<u8> {
 /// Makes the rows unlike in length, empty, no multiple of r, or too long.
 fn spoil_lengths(random: &mut Random, r: usize, a: &mut Vec<u8>, b: &mut Vec<u8>) {
     let lengths = match random.below(4) {
-        0 => (a.len(), random.between(0, 140)),
+        0 => (a.len(), random.between(0, 250)),
         1 => (0, 0),
         2 => (a.len() + 1, a.len() + 1),
         _ => {

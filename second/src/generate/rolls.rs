@@ -1,6 +1,7 @@
 //! Rolls: slips joined as the office saves them, then cut, with noise before, between or behind them, or with bits changed
 //! that hold nothing.
 
+use super::header::{layout, DEPTH, EDITION, FIELD};
 use super::slips;
 use crate::random::Random;
 use crate::reference::slip::{pack, unpack};
@@ -9,7 +10,7 @@ use crate::reference::slip::{pack, unpack};
 pub const MOST_SLIPS: usize = 40;
 
 /// What was done to the joined slips.
-#[derive(Clone, Copy, Debug, PartialEq, Eq)]
+#[derive(Clone, Copy, Debug, PartialEq, Eq, PartialOrd, Ord)]
 pub enum Way {
     Good,
     Cut,
@@ -36,7 +37,7 @@ impl Way {
             Way::NoiseBefore => "with noise before it",
             Way::NoiseBetween => "with noise between its slips",
             Way::NoiseBehind => "with noise behind it",
-            Way::LooseBits => "with spare and fill bits changed",
+            Way::LooseBits => "with zero and fill bits changed",
         }
     }
 }
@@ -47,7 +48,7 @@ pub struct Drawn {
     pub way: Way,
 }
 
-/// 0 to 40 slips as the writer makes them; short rolls are more frequent.
+/// 0 to 40 slips as the writer makes them, of both editions; short rolls are more frequent.
 pub fn written(random: &mut Random) -> Vec<Vec<u8>> {
     let most = random.pick(&[1, 2, 4, MOST_SLIPS]);
     let count = random.between(0, most);
@@ -97,17 +98,17 @@ fn drawn_way(random: &mut Random, count: usize) -> Way {
     }
 }
 
-/// Cut anywhere, in half of the cases within the first slip or right behind it: there the answer changes.
+/// Cut anywhere, in most cases within the first slip or right behind it: there the answer changes.
 fn cut(random: &mut Random, slips: &[Vec<u8>]) -> Drawn {
     let mut bytes = slips.concat();
     let first = slips.first().map_or(0, Vec::len);
-    let length = match random.below(4) {
-        0 => first,
-        1 => first.saturating_sub(random.between(1, 3)),
-        2 => random.between(0, first),
-        _ => random.between(0, bytes.len()),
+    match random.below(5) {
+        0 => bytes.truncate(first),
+        1 => bytes.truncate(first.saturating_sub(random.between(1, 3))),
+        2 => bytes.truncate(random.between(0, first)),
+        3 => slips::cut_to_the_header(random, &mut bytes),
+        _ => bytes.truncate(random.between(0, bytes.len())),
     };
-    bytes.truncate(length);
     Drawn {
         bytes,
         slips: slips.len(),
@@ -120,8 +121,17 @@ fn noise(random: &mut Random) -> Vec<u8> {
     if random.percent(40) {
         return slips::unwritten(random);
     }
-    let mut bytes = pack(&slips::written(random));
-    let (at, width) = random.pick(&[(0, 4), (4, 2), (6, 3), (9, 7), (16, 7)]);
-    slips::set_bits(&mut bytes, at, width, random.below(1 << width));
+    let slip = slips::written(random);
+    let mut bytes = pack(&slip);
+    let edition = slip.header.edition;
+    let behind = layout(edition);
+    match random.below(10) {
+        0..3 => slips::around_a_limit(random, edition, &mut bytes),
+        3 => behind.dimension.write(&mut bytes, slip.row.len()), // one more than n
+        _ => {
+            let place = random.pick(&[EDITION, FIELD, DEPTH, behind.count, behind.dimension]);
+            place.write(&mut bytes, random.below(1 << place.width));
+        }
+    }
     bytes
 }

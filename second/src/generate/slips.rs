@@ -2,12 +2,13 @@
 
 use super::codes::{self, Sizes};
 use super::damage;
+use super::header::{end, layout, size, Place, DEPTH, EDITION, EDITIONS, FIELD};
 use crate::call::Header;
 use crate::random::Random;
-use crate::reference::slip::{pack, size, Slip};
+use crate::reference::slip::{pack, Slip};
 
 /// No slip drawn here is longer.
-pub const MOST_BYTES: usize = 400;
+pub const MOST_BYTES: usize = 600;
 
 /// Bytes for the reader, and how they came about.
 pub struct Drawn {
@@ -27,10 +28,14 @@ pub enum Change {
 }
 
 /// A bit of a slip that holds nothing.
-#[derive(Clone, Copy, Debug, PartialEq, Eq)]
+#[derive(Clone, Copy, Debug, PartialEq, Eq, PartialOrd, Ord)]
 pub enum Loose {
+    /// The spare bit of edition 1.
     Spare,
-    Fill,
+    /// One of the seven zero bits of edition 2, counted from 0.
+    Zero(usize),
+    /// A bit behind the last symbol, in this edition.
+    Fill(usize),
 }
 
 pub fn slip(random: &mut Random) -> Drawn {
@@ -63,27 +68,34 @@ pub fn slip(random: &mut Random) -> Drawn {
     }
 }
 
-/// Changes one bit of a slip that holds nothing: in most cases one of the fill, where there is any, else the spare bit.
+/// Changes one bit of a slip that holds nothing: in most cases one of the fill, where there is any, else one of the header.
 pub fn loosen(random: &mut Random, header: Header, bytes: &mut [u8]) -> Loose {
     let loose = loose_bits(header);
-    let place = if random.percent(80) && loose.len() > 1 {
-        random.between(1, loose.len() - 1)
+    let zeros = layout(header.edition).zeros.width;
+    let place = if random.percent(60) && loose.len() > zeros {
+        random.between(zeros, loose.len() - 1)
     } else {
-        0
+        random.below(zeros)
     };
     flip(bytes, loose[place]);
-    match place {
-        0 => Loose::Spare,
-        _ => Loose::Fill,
-    }
+    which(header, loose[place])
 }
 
-/// The bits that hold nothing: the last one of the header, and those behind the last symbol.
+/// The bits that hold nothing: the last ones of the header, and those behind the last symbol.
 pub fn loose_bits(header: Header) -> Vec<usize> {
-    let Header { m, r, count, .. } = header;
-    let end = 24 + (count + r * count) * m;
-    let fill = end..8 * size(m, r, count);
-    [23].into_iter().chain(fill).collect()
+    let zeros = layout(header.edition).zeros;
+    let fill = end(header)..8 * size(header);
+    (zeros.at..zeros.end()).chain(fill).collect()
+}
+
+/// Which one it is of the bits that hold nothing.
+pub fn which(header: Header, bit: usize) -> Loose {
+    let zeros = layout(header.edition).zeros;
+    match header.edition {
+        edition if bit >= zeros.end() => Loose::Fill(edition),
+        1 => Loose::Spare,
+        _ => Loose::Zero(bit - zeros.at),
+    }
 }
 
 /// Changes a bit, counted from the front.
@@ -91,11 +103,13 @@ pub fn flip(bytes: &mut [u8], bit: usize) {
     bytes[bit / 8] ^= 0x80 >> (bit % 8);
 }
 
-/// What the writer would make a slip of.
+/// What the writer would make a slip of, of either edition.
 pub fn written(random: &mut Random) -> Slip {
-    let code = codes::code(random, Sizes::MostlyShort);
+    let edition = random.pick(&EDITIONS);
+    let code = codes::code(random, Sizes::MostlyShort, layout(edition).longest_row);
     Slip {
         header: Header {
+            edition,
             m: code.field.bits(),
             r: code.r,
             count: code.points.len(),
@@ -115,68 +129,77 @@ pub fn unwritten(random: &mut Random) -> Vec<u8> {
     };
     let mut bytes = random.bytes(count);
     if random.percent(50) {
-        set_bits(&mut bytes, 0, 4, 1);
+        EDITION.write(&mut bytes, random.pick(&EDITIONS));
     }
     bytes
 }
 
 fn change(random: &mut Random, slip: &Slip, bytes: &mut Vec<u8>) {
     let header = slip.header;
+    let layout = layout(header.edition);
     let n = slip.row.len();
-    match random.below(16) {
-        0 => set_bits(bytes, 0, 4, random.below(16)),
-        1 => set_bits(bytes, 4, 2, 3),
-        2 => set_bits(bytes, 4, 2, random.below(4)),
-        3 => set_bits(bytes, 6, 3, random.below(8)),
-        4 => set_bits(bytes, 9, 7, random.below(128)),
-        5 => set_bits(bytes, 9, 7, header.count % 128),
-        6 => set_bits(bytes, 16, 7, random.below(128)),
-        7 => set_bits(bytes, 16, 7, n % 128),
-        8 => set_bits(bytes, 23, 1, 1),
-        9 => set_fill(random, header, bytes),
-        10 => change_symbol(random, header, bytes),
-        11 => repeat_point(random, slip, bytes),
-        12 => flip_bits(random, bytes),
-        13 => cut(random, bytes),
-        14 => extend(random, bytes),
+    let mut set = |place: Place, number: usize| place.write(bytes, number);
+    let any = |random: &mut Random, place: Place| random.below(1 << place.width);
+    match random.below(19) {
+        0 => set(EDITION, any(random, EDITION)),
+        1 => set(EDITION, random.pick(&EDITIONS)),
+        2 => set(FIELD, 3),
+        3 => set(FIELD, any(random, FIELD)),
+        4 => set(DEPTH, any(random, DEPTH)),
+        5 => set(layout.count, any(random, layout.count)),
+        6 => set(layout.count, header.count), // one more
+        7 => set(layout.dimension, any(random, layout.dimension)),
+        8 => set(layout.dimension, n), // one more than n
+        9 => set(layout.zeros, any(random, layout.zeros)),
+        10 => around_a_limit(random, header.edition, bytes),
+        11 => set_fill(random, header, bytes),
+        12 => change_symbol(random, header, bytes),
+        13 => repeat_point(random, slip, bytes),
+        14 => flip_bits(random, bytes),
+        15 => cut(random, bytes),
+        16 => cut_to_the_header(random, bytes),
+        17 => extend(random, bytes),
         _ => change_byte(random, bytes),
     }
 }
 
-/// Overwrites `width` bits from bit `at` on; bits behind the last byte are left out.
-pub fn set_bits(bytes: &mut [u8], at: usize, width: usize, number: usize) {
-    for place in 0..width {
-        let bit = at + place;
-        let Some(byte) = bytes.get_mut(bit / 8) else {
-            return;
-        };
-        let mask = 0x80 >> (bit % 8);
-        *byte &= !mask;
-        if number >> (width - 1 - place) & 1 == 1 {
-            *byte |= mask;
+/// Has the header say a row whose length is around a limit, and k = 1, n or n + 1, as far as it can say them.
+pub fn around_a_limit(random: &mut Random, edition: usize, bytes: &mut [u8]) {
+    let layout = layout(edition);
+    let (m, r, count) = loop {
+        let n = codes::around_limits(random, 1, usize::MAX);
+        let size = codes::of_length(random, n);
+        if size.2 <= 1 << layout.count.width {
+            break size;
         }
-    }
+    };
+    let n = r * count;
+    FIELD.write(bytes, m.ilog2() as usize - 1);
+    DEPTH.write(bytes, r - 1);
+    layout.count.write(bytes, count - 1);
+    layout.dimension.write(bytes, random.pick(&[0, n - 1, n]));
 }
 
 /// Fills the bits behind the last symbol at random.
 fn set_fill(random: &mut Random, header: Header, bytes: &mut [u8]) {
-    for bit in &loose_bits(header)[1..] {
-        set_bits(bytes, *bit, 1, random.below(2));
-    }
+    let end = end(header);
+    let fill = Place {
+        at: end,
+        width: 8 * size(header) - end,
+    };
+    fill.write(bytes, random.below(1 << fill.width));
 }
 
 fn change_symbol(random: &mut Random, header: Header, bytes: &mut [u8]) {
-    let Header { m, r, count, .. } = header;
-    let symbol = random.below(r * count);
-    let at = 24 + (count + symbol) * m;
-    set_bits(bytes, at, m, random.below(1 << m));
+    let symbol = random.below(header.r * header.count);
+    let place = Place::of_symbol(header, header.count + symbol);
+    place.write(bytes, random.below(1 << header.m));
 }
 
 fn repeat_point(random: &mut Random, slip: &Slip, bytes: &mut [u8]) {
     let point = random.pick(&slip.points);
     let place = random.below(slip.points.len());
-    let m = slip.header.m;
-    set_bits(bytes, 24 + place * m, m, usize::from(point));
+    Place::of_symbol(slip.header, place).write(bytes, point.into());
 }
 
 fn flip_bits(random: &mut Random, bytes: &mut [u8]) {
@@ -189,12 +212,17 @@ fn flip_bits(random: &mut Random, bytes: &mut [u8]) {
 }
 
 fn cut(random: &mut Random, bytes: &mut Vec<u8>) {
-    let length = match random.below(3) {
-        0 => bytes.len().saturating_sub(1),
-        1 => random.below(4),
-        _ => random.below(bytes.len() + 1),
+    let length = if random.percent(50) {
+        bytes.len().saturating_sub(1)
+    } else {
+        random.below(bytes.len() + 1)
     };
     bytes.truncate(length);
+}
+
+/// What is left is a header of either edition, or less.
+pub fn cut_to_the_header(random: &mut Random, bytes: &mut Vec<u8>) {
+    bytes.truncate(random.pick(&[0, 1, 2, 3, 3, 4]));
 }
 
 fn extend(random: &mut Random, bytes: &mut Vec<u8>) {

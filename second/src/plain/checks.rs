@@ -4,7 +4,7 @@ use super::tables::Tables;
 use super::DEEPEST;
 
 /// No row is longer.
-const LONGEST_ROW: usize = 128;
+const LONGEST_ROW: usize = 240;
 
 /// A refusal: its number and the place it speaks of, or 0.
 #[derive(Clone, Copy, Debug, PartialEq, Eq)]

@@ -4,7 +4,7 @@ use super::field::Field;
 use super::refusal::Refusal;
 
 /// No row is longer.
-pub const LONGEST_ROW: usize = 128;
+pub const LONGEST_ROW: usize = 240;
 /// No chunk is deeper.
 pub const DEEPEST: usize = 8;
 
@@ -20,12 +20,23 @@ pub struct Code {
 impl Code {
     /// Tries 1 to 6 in that order, each over the whole input.
     pub fn check(m: usize, r: usize, k: usize, points: &[u8]) -> Result<Code, Refusal> {
+        Code::check_within(LONGEST_ROW, m, r, k, points)
+    }
+
+    /// The same where no row may be longer than `longest`.
+    pub fn check_within(
+        longest: usize,
+        m: usize,
+        r: usize,
+        k: usize,
+        points: &[u8],
+    ) -> Result<Code, Refusal> {
         let field = Field::of(m).ok_or(Refusal::Field)?;
         if r == 0 || r > DEEPEST {
             return Err(Refusal::Depth);
         }
         let n = r * points.len();
-        if points.is_empty() || points.len() > field.size() || n > LONGEST_ROW {
+        if points.is_empty() || points.len() > field.size() || n > longest {
             return Err(Refusal::Points);
         }
         if k == 0 || k > n {

@@ -1,4 +1,9 @@
-//! The fields of 4, 16 and 256 elements: products by shifting and reducing, without tables.
+//! The fields of 4, 16 and 256 elements: products by shifting and reducing. Each is worked out once and then looked up.
+
+use std::sync::OnceLock;
+
+/// A product for each pair of bytes; those outside the field are not asked for.
+type Products = Box<[[u8; 256]; 256]>;
 
 /// The field of 2^m elements, the numbers below 2^m read as polynomials in x.
 #[derive(Clone, Copy, Debug, PartialEq, Eq)]
@@ -34,6 +39,25 @@ impl Field {
     }
 
     pub fn mul(self, a: u8, b: u8) -> u8 {
+        static PRODUCTS: [OnceLock<Products>; 3] = [const { OnceLock::new() }; 3];
+        let place = self.m.trailing_zeros() as usize - 1;
+        let products = PRODUCTS[place].get_or_init(|| self.products());
+        products[usize::from(a)][usize::from(b)]
+    }
+
+    fn products(self) -> Products {
+        let mut products = Box::new([[0; 256]; 256]);
+        let elements = 0..=(self.size() - 1) as u8;
+        for a in elements.clone() {
+            for b in elements.clone() {
+                products[usize::from(a)][usize::from(b)] = self.product(a, b);
+            }
+        }
+        products
+    }
+
+    /// Shifts of a are added up for the bits of b.
+    fn product(self, a: u8, b: u8) -> u8 {
         let mut product = 0;
         for bit in 0..self.m {
             product ^= (u32::from(a) << bit) * u32::from(b >> bit & 1);

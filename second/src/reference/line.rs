@@ -56,36 +56,40 @@ mod tests {
     use crate::reference::slip::{pack, Slip};
 
     #[test]
-    fn the_six_bytes_give_the_line_worked_by_hand() {
-        let slip = [0x10, 0x83, 0x06, 0x1b, 0x73, 0xb8];
-        assert_eq!(text(&slip), "0 2 | 1 2 2 1 | 1 0 1 0\n");
+    fn the_six_and_the_seven_bytes_give_the_line_worked_by_hand() {
+        let six = [0x10, 0x83, 0x06, 0x1b, 0x73, 0xb8];
+        let seven = [0x20, 0x81, 0x81, 0x80, 0x1b, 0x73, 0xb8];
+        assert_eq!(text(&six), "0 2 | 1 2 2 1 | 1 0 1 0\n");
+        assert_eq!(text(&seven), text(&six));
     }
 
     #[test]
-    fn the_longest_line_has_776_bytes() {
+    fn the_longest_line_has_1448_bytes() {
         // With k = n every row is accepted; 255 in all of it is the row of the constant message.
         let slip = Slip {
             header: Header {
+                edition: 2,
                 m: 8,
                 r: 1,
-                count: 128,
-                k: 128,
+                count: 240,
+                k: 240,
             },
-            points: (0..128).collect(),
-            row: vec![255; 128],
+            points: (0..240).collect(),
+            row: vec![255; 240],
         };
-        let message = format!("255{}", " 0".repeat(127));
-        let depths = format!("0{}", " 0".repeat(127));
+        let message = format!("255{}", " 0".repeat(239));
+        let depths = format!("0{}", " 0".repeat(239));
         let text = text(&pack(&slip));
         assert_eq!(text, format!("0 0 | {message} | {depths}\n"));
         // Every symbol could have the three digits that the first one has.
-        assert_eq!(text.len() + 2 * 127, 776);
+        assert_eq!(text.len() + 2 * 239, 1448);
     }
 
     #[test]
     fn a_refused_slip_gives_number_and_detail_alone() {
         assert_eq!(text(&[]), "10 0\n");
-        assert_eq!(text(&[0x20, 0, 0]), "11 0\n");
+        assert_eq!(text(&[0x20, 0, 0]), "10 0\n");
+        assert_eq!(text(&[0x30, 0, 0]), "11 0\n");
         assert_eq!(text(&[0x1c, 0, 0]), "1 0\n");
         assert_eq!(text(&[0x10, 0, 0, 0, 0]), "12 0\n");
         // Points 1 and 1 leave no fill; the spare bit comes first.

@@ -15,7 +15,7 @@ pub mod rows;
 pub mod search;
 pub mod slip;
 
-use crate::call::{Answer, Call, Header, Kind, Outcome};
+use crate::call::{Answer, Call, Kind, Outcome};
 use refusal::Refusal;
 
 /// The outcome that the description gives for `call`.
@@ -43,11 +43,7 @@ fn read_answer(call: &Call, buffers: &mut [Vec<u8>]) -> Answer {
 
 fn plain_answer(call: &Call, buffers: &mut [Vec<u8>]) -> Answer {
     match detail(call, buffers) {
-        Ok(detail) => Answer {
-            number: 0,
-            detail,
-            header: Header::default(),
-        },
+        Ok(detail) => Answer::plain(0, detail),
         Err(refusal) => refused(refusal),
     }
 }
@@ -61,8 +57,8 @@ fn detail(call: &Call, buffers: &mut [Vec<u8>]) -> Result<usize, Refusal> {
             decode::decode(m, r, k, points, row, message, depths)
         }
         (Kind::Distance, &[r], [a, b], []) => rows::distance(r, a, b),
-        (Kind::SlipWrite, &[m, r, k], [points, row], [bytes]) => {
-            slip::write(m, r, k, points, row, bytes)
+        (Kind::SlipWrite, &[edition, m, r, k], [points, row], [bytes]) => {
+            slip::write(edition, m, r, k, points, row, bytes)
         }
         (Kind::Line, [], [slip], [text]) => line::line(slip, text),
         (Kind::RollFirst, [], [roll], []) => roll::first(roll),
@@ -71,9 +67,5 @@ fn detail(call: &Call, buffers: &mut [Vec<u8>]) -> Result<usize, Refusal> {
 }
 
 fn refused(refusal: Refusal) -> Answer {
-    Answer {
-        number: refusal.number(),
-        detail: refusal.place(),
-        header: Header::default(),
-    }
+    Answer::plain(refusal.number(), refusal.place())
 }

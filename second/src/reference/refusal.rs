@@ -22,7 +22,7 @@ pub enum Refusal {
     TooFar,
     /// The slip ends before its header or before its size.
     SlipShort,
-    /// The slip is of another edition.
+    /// The slip, or the one that is to be written, is of an edition that there is not.
     Edition,
     /// The slip goes on behind its size.
     SlipLong,

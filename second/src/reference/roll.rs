@@ -5,39 +5,81 @@
 
 use super::refusal::Refusal;
 
-/// The size of the first slip, 0 for an empty roll.
-pub fn first(roll: &[u8]) -> Result<usize, Refusal> {
-    if roll.is_empty() {
-        return Ok(0);
+/// The bits of a header that are left to read; those that were read are shifted out at its front.
+struct Bits(u32);
+
+impl Bits {
+    fn next(&mut self, width: u32) -> u32 {
+        let number = self.0 >> (32 - width);
+        self.0 <<= width;
+        number
     }
+}
+
+/// What a header promises: symbols of so many bits from this bit on, a point and a chunk for each place.
+struct Promise {
+    from: usize,
+    bits: u32,
+    places: u32,
+    depth: u32,
+}
+
+impl Promise {
+    /// Something for each symbol of the row.
+    fn row(&self) -> impl Iterator<Item = u32> {
+        let depth = self.depth;
+        (0..self.places).flat_map(move |place| (0..depth).map(move |_| place))
+    }
+}
+
+/// 10, 11, 10, 1, 3 and 4 in that order.
+fn promise(roll: &[u8]) -> Result<Promise, Refusal> {
     let &[a, b, c, ..] = roll else {
         return Err(Refusal::SlipShort);
     };
-    let header = u32::from_be_bytes([0, a, b, c]);
-    let field = |behind: u32, width: u32| header >> behind & ((1 << width) - 1);
-    if field(20, 4) != 1 {
-        return Err(Refusal::Edition);
-    }
-    let m = match field(18, 2) {
+    let fourth = roll.get(3).copied();
+    let mut header = Bits(u32::from_be_bytes([a, b, c, fourth.unwrap_or(0)]));
+    let (width, longest_row, from) = match (header.next(4), fourth) {
+        (1, _) => (7, 128, 24),
+        (2, Some(_)) => (8, 240, 32),
+        (2, None) => return Err(Refusal::SlipShort),
+        _ => return Err(Refusal::Edition),
+    };
+    let bits = match header.next(2) {
         0 => 2,
         1 => 4,
         2 => 8,
         _ => return Err(Refusal::Field),
     };
-    let (deeper, more_points, longer) = (field(15, 3), field(8, 7), field(1, 7));
-    let chunks = 0..=more_points;
-    let symbols = chunks.flat_map(|chunk| (0..=deeper).map(move |_| chunk));
-    let n = symbols.clone().count();
-    if more_points >= 1 << m || n > 128 {
+    let depth = header.next(3) + 1;
+    let places = header.next(width) + 1;
+    let longer = header.next(width) as usize;
+    let promise = Promise {
+        from,
+        bits,
+        places,
+        depth,
+    };
+    let n = promise.row().count();
+    if places > 1 << bits || n > longest_row {
         return Err(Refusal::Points);
     }
-    if longer as usize >= n {
+    if longer >= n {
         return Err(Refusal::MessageLength);
     }
-    let mut bits = roll.iter().flat_map(|_| 0..8).skip(24);
-    let mut at = 24;
-    for _ in symbols.chain(0..=more_points) {
-        for _ in 0..m {
+    Ok(promise)
+}
+
+/// The size of the first slip, 0 for an empty roll.
+pub fn first(roll: &[u8]) -> Result<usize, Refusal> {
+    if roll.is_empty() {
+        return Ok(0);
+    }
+    let promise = promise(roll)?;
+    let mut at = promise.from;
+    let mut bits = roll.iter().flat_map(|_| 0..8).skip(at);
+    for _ in promise.row().chain(0..promise.places) {
+        for _ in 0..promise.bits {
             bits.next().ok_or(Refusal::SlipShort)?;
             at += 1;
         }
@@ -76,7 +118,7 @@ mod tests {
         if roll.is_empty() {
             return Ok(0);
         }
-        for size in 0..=roll.len().min(259) {
+        for size in 0..=roll.len().min(484) {
             match slip::unpack(&roll[..size]) {
                 Err(Refusal::SlipShort) => (),
                 Ok(_) | Err(Refusal::SlipBits | Refusal::PointTwice(_)) => return Ok(size),

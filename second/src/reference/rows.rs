@@ -94,19 +94,24 @@ pub fn distance(r: usize, a: &[u8], b: &[u8]) -> Result<usize, Refusal> {
 mod tests {
     use super::*;
 
+    /// The number itself, by products: upper / 1, then times (upper - 1) / 2, and so on. No division leaves a rest.
+    fn binomial(upper: usize, lower: usize) -> u128 {
+        let factor = |below: usize| upper.saturating_sub(below) as u128;
+        (0..lower).fold(1, |product, below| {
+            product * factor(below) / (below as u128 + 1)
+        })
+    }
+
     #[test]
     fn parities_are_those_of_the_binomials() {
-        let mut row: Vec<u128> = vec![1];
-        for parities in &PARITIES {
+        assert_eq!(
+            [binomial(8, 3), binomial(240, 2), binomial(2, 3)],
+            [56, 28_680, 0]
+        );
+        for (upper, parities) in PARITIES.iter().enumerate() {
             for (lower, parity) in parities.iter().enumerate() {
-                let binomial = row.get(lower).copied().unwrap_or(0);
-                assert_eq!(u128::from(*parity), binomial % 2);
+                assert_eq!(u128::from(*parity), binomial(upper, lower) % 2);
             }
-            // The exact numbers: the largest, 128 over 64, has 124 bits.
-            let next = |i: usize| row[i - 1] + row.get(i).copied().unwrap_or(0);
-            row = std::iter::once(1)
-                .chain((1..=row.len()).map(next))
-                .collect();
         }
     }
 }

@@ -1,12 +1,54 @@
 //! Slips as strings of bits, and the calls that write and read them.
+//!
+//! No place and no width of a number is worked out: the header of an edition is a picture, a letter for each of its bits.
 
-use super::code::{check_distinct, Code, LONGEST_ROW};
+use super::code::{check_distinct, Code};
 use super::field::Field;
 use super::refusal::Refusal;
 use crate::call::Header;
 
-const EDITION: usize = 1;
-const HEADER_BYTES: usize = 3;
+/// Fewer bytes than these are short, whatever their edition.
+const LEAST_BYTES: usize = 3;
+
+/// An edition: its number, the picture of its header, and the longest row that it holds.
+///
+/// In the picture E is a bit of the edition, F of the field, R of r - 1, P of n' - 1, K of k - 1, and 0 a bit that is 0.
+struct Edition {
+    number: usize,
+    header: &'static str,
+    longest_row: usize,
+}
+
+const EDITIONS: [Edition; 2] = [
+    Edition {
+        number: 1,
+        header: "EEEE FF RRR PPPPPPP KKKKKKK 0",
+        longest_row: 128,
+    },
+    Edition {
+        number: 2,
+        header: "EEEE FF RRR PPPPPPPP KKKKKKKK 0000000",
+        longest_row: 240,
+    },
+];
+
+impl Edition {
+    fn of(number: usize) -> Result<&'static Edition, Refusal> {
+        let mut editions = EDITIONS.iter();
+        let found = editions.find(|edition| edition.number == number);
+        found.ok_or(Refusal::Edition)
+    }
+
+    /// The letter of each number in the header and how many bits it has, in their order.
+    fn parts(&self) -> impl Iterator<Item = (char, usize)> {
+        let letters = |part: &str| (part.chars().next().unwrap_or('0'), part.len());
+        self.header.split(' ').map(letters)
+    }
+
+    fn header_bytes(&self) -> usize {
+        self.parts().map(|(_, width)| width).sum::<usize>() / 8
+    }
+}
 
 /// What stands in a slip, fit for a code or not.
 #[derive(Clone, Debug, PartialEq, Eq)]
@@ -16,21 +58,33 @@ pub struct Slip {
     pub row: Vec<u8>,
 }
 
-/// 3 bytes and as many as the points and symbols fill.
-pub fn size(m: usize, r: usize, count: usize) -> usize {
-    HEADER_BYTES + ((count + r * count) * m).div_ceil(8)
+/// The bytes of a slip: its header, and as many as the points and symbols fill.
+fn size(edition: &Edition, header: Header) -> usize {
+    let Header { m, r, count, .. } = header;
+    edition.header_bytes() + ((count + r * count) * m).div_ceil(8)
 }
 
-/// The bytes of a slip. Nothing is checked but that the numbers fit their places.
+/// The bytes of a slip. Nothing is checked but that there is its edition, and that the numbers fit their places.
 pub fn pack(slip: &Slip) -> Vec<u8> {
-    let Header { m, r, count, k } = slip.header;
+    let Header {
+        edition,
+        m,
+        r,
+        count,
+        k,
+    } = slip.header;
     let mut bits = String::new();
-    push(&mut bits, EDITION, 4);
-    push(&mut bits, field_code(m), 2);
-    push(&mut bits, r - 1, 3);
-    push(&mut bits, count - 1, 7);
-    push(&mut bits, k - 1, 7);
-    push(&mut bits, 0, 1);
+    for (letter, width) in Edition::of(edition).expect("an edition").parts() {
+        let number = match letter {
+            'E' => edition,
+            'F' => field_code(m),
+            'R' => r - 1,
+            'P' => count - 1,
+            'K' => k - 1,
+            _ => 0,
+        };
+        push(&mut bits, number, width);
+    }
     for symbol in slip.points.iter().chain(&slip.row) {
         push(&mut bits, usize::from(*symbol), m);
     }
@@ -88,13 +142,17 @@ impl Reader {
 ///
 /// Which bits hold nothing is not worked out: what was read is packed again, and other bytes than these are refused.
 pub fn unpack(bytes: &[u8]) -> Result<Slip, Refusal> {
-    if bytes.len() < HEADER_BYTES {
+    if bytes.len() < LEAST_BYTES {
+        return Err(Refusal::SlipShort);
+    }
+    let edition = Edition::of(usize::from(bytes[0] >> 4))?;
+    if bytes.len() < edition.header_bytes() {
         return Err(Refusal::SlipShort);
     }
     let mut reader = Reader::new(bytes);
-    let header = unpack_header(&mut reader)?;
+    let header = unpack_header(edition, &mut reader)?;
     let Header { m, r, count, .. } = header;
-    match bytes.len().cmp(&size(m, r, count)) {
+    match bytes.len().cmp(&size(edition, header)) {
         std::cmp::Ordering::Less => return Err(Refusal::SlipShort),
         std::cmp::Ordering::Equal => (),
         std::cmp::Ordering::Greater => return Err(Refusal::SlipLong),
@@ -113,28 +171,36 @@ pub fn unpack(bytes: &[u8]) -> Result<Slip, Refusal> {
     Ok(slip)
 }
 
-/// The first 24 bits: 11, 1, 3 and 4 are tried in that order.
-fn unpack_header(reader: &mut Reader) -> Result<Header, Refusal> {
-    if reader.take(4) != EDITION {
-        return Err(Refusal::Edition);
+/// The numbers of the header: 1, 3 and 4 are tried in that order.
+fn unpack_header(edition: &Edition, reader: &mut Reader) -> Result<Header, Refusal> {
+    let mut header = Header::default();
+    let mut field_code = 0;
+    for (letter, width) in edition.parts() {
+        let number = reader.take(width);
+        match letter {
+            'E' => header.edition = number,
+            'F' => field_code = number,
+            'R' => header.r = number + 1,
+            'P' => header.count = number + 1,
+            'K' => header.k = number + 1,
+            _ => (),
+        }
     }
-    let m = *[2, 4, 8].get(reader.take(2)).ok_or(Refusal::Field)?;
-    let r = reader.take(3) + 1;
-    let count = reader.take(7) + 1;
-    let k = reader.take(7) + 1;
-    reader.take(1); // the spare bit
-    let field = Field::of(m).ok_or(Refusal::Field)?;
-    if count > field.size() || r * count > LONGEST_ROW {
+    header.m = *[2, 4, 8].get(field_code).ok_or(Refusal::Field)?;
+    let field = Field::of(header.m).ok_or(Refusal::Field)?;
+    let n = header.r * header.count;
+    if header.count > field.size() || n > edition.longest_row {
         return Err(Refusal::Points);
     }
-    if k > r * count {
+    if header.k > n {
         return Err(Refusal::MessageLength);
     }
-    Ok(Header { m, r, count, k })
+    Ok(header)
 }
 
 /// The call that writes a slip.
 pub fn write(
+    edition: usize,
     m: usize,
     r: usize,
     k: usize,
@@ -142,15 +208,22 @@ pub fn write(
     row: &[u8],
     bytes: &mut [u8],
 ) -> Result<usize, Refusal> {
-    let code = Code::check(m, r, k, points)?;
-    let count = points.len();
-    let size = size(m, r, count);
+    let known = Edition::of(edition)?;
+    let code = Code::check_within(known.longest_row, m, r, k, points)?;
+    let header = Header {
+        edition,
+        m,
+        r,
+        count: points.len(),
+        k,
+    };
+    let size = size(known, header);
     if row.len() != code.row_length() || bytes.len() < size {
         return Err(Refusal::Length);
     }
     code.check_symbols(row)?;
     let slip = Slip {
-        header: Header { m, r, count, k },
+        header,
         points: points.to_vec(),
         row: row.to_vec(),
     };
@@ -175,38 +248,77 @@ mod tests {
     use crate::generate::slips;
     use crate::random::Random;
 
-    #[test]
-    fn the_six_bytes_hold_the_row_worked_by_hand() {
-        let slip = Slip {
-            header: Header {
-                m: 2,
-                r: 2,
-                count: 4,
-                k: 4,
-            },
-            points: vec![0, 1, 2, 3],
-            row: vec![1, 3, 0, 3, 2, 3, 2, 0],
+    fn size_of(edition: usize, m: usize, r: usize, count: usize) -> usize {
+        let header = Header {
+            edition,
+            m,
+            r,
+            count,
+            k: 1,
         };
-        let bytes = [0x10, 0x83, 0x06, 0x1b, 0x73, 0xb8];
-        assert_eq!(pack(&slip), bytes);
-        assert_eq!(unpack(&bytes), Ok(slip));
+        size(Edition::of(edition).unwrap(), header)
     }
 
     #[test]
-    fn the_longest_slip_has_259_bytes() {
-        assert_eq!(size(8, 1, 128), 259);
-        assert_eq!(size(8, 8, 16), 147);
-        assert_eq!(size(2, 1, 1), 4);
-    }
-
-    #[test]
-    fn spare_bit_and_fill_must_be_0() {
-        let slip = unpack(&[0x10, 0x00, 0x00, 0x10]).unwrap();
-        assert_eq!((&slip.points[..], &slip.row[..]), (&[0][..], &[1][..]));
-        for (spare, fill) in [(1, 0), (0, 1), (0, 2), (0, 4), (0, 8), (1, 15)] {
-            let bytes = [0x10, 0x00, spare, 0x10 | fill];
-            assert_eq!(unpack(&bytes), Err(Refusal::SlipBits), "{bytes:02x?}");
+    fn the_six_and_the_seven_bytes_hold_the_row_worked_by_hand() {
+        let bytes: [&[u8]; 2] = [
+            &[0x10, 0x83, 0x06, 0x1b, 0x73, 0xb8],
+            &[0x20, 0x81, 0x81, 0x80, 0x1b, 0x73, 0xb8],
+        ];
+        for (edition, bytes) in (1..).zip(bytes) {
+            let slip = Slip {
+                header: Header {
+                    edition,
+                    m: 2,
+                    r: 2,
+                    count: 4,
+                    k: 4,
+                },
+                points: vec![0, 1, 2, 3],
+                row: vec![1, 3, 0, 3, 2, 3, 2, 0],
+            };
+            assert_eq!(pack(&slip), bytes);
+            assert_eq!(unpack(bytes), Ok(slip));
         }
+    }
+
+    #[test]
+    fn the_longest_slips_have_259_and_484_bytes() {
+        assert_eq!(size_of(1, 8, 1, 128), 259);
+        assert_eq!(size_of(1, 8, 8, 16), 147);
+        assert_eq!(size_of(1, 2, 1, 1), 4);
+        assert_eq!(size_of(2, 8, 1, 240), 484);
+        assert_eq!(size_of(2, 8, 8, 30), 274);
+        assert_eq!(size_of(2, 2, 1, 1), 5);
+    }
+
+    #[test]
+    fn zero_bits_and_fill_must_be_0() {
+        let good = [vec![0x10, 0, 0, 0x10], vec![0x20, 0, 0, 0, 0x10]];
+        let loose = [
+            vec![23, 28, 29, 30, 31],
+            vec![25, 26, 27, 28, 29, 30, 31, 36, 37, 38, 39],
+        ];
+        for (good, loose) in good.iter().zip(loose) {
+            let slip = unpack(good).unwrap();
+            assert_eq!((&slip.points[..], &slip.row[..]), (&[0][..], &[1][..]));
+            for bit in loose {
+                let mut bytes = good.clone();
+                slips::flip(&mut bytes, bit);
+                assert_eq!(unpack(&bytes), Err(Refusal::SlipBits), "{bytes:02x?}");
+            }
+        }
+    }
+
+    /// The numbers of a header that is too short for its edition are not looked at.
+    #[test]
+    fn three_bytes_of_edition_2_are_short_whatever_they_say() {
+        for bytes in [[0x20, 0, 0], [0x2c, 0, 0], [0x2f, 0xff, 0xff]] {
+            assert_eq!(unpack(&bytes), Err(Refusal::SlipShort), "{bytes:02x?}");
+        }
+        assert_eq!(unpack(&[0x2c, 0, 0, 0]), Err(Refusal::Field));
+        assert_eq!(unpack(&[0x30, 0, 0]), Err(Refusal::Edition));
+        assert_eq!(unpack(&[0x30, 0]), Err(Refusal::SlipShort));
     }
 
     /// Bits of points and row are never called loose, and the bits that are drawn as loose ones always are.
@@ -217,7 +329,7 @@ mod tests {
             let slip = slips::written(&mut random);
             let good = pack(&slip);
             let loose = slips::loose_bits(slip.header);
-            for bit in 23..8 * good.len() {
+            for bit in loose[0]..8 * good.len() {
                 let mut bytes = good.clone();
                 slips::flip(&mut bytes, bit);
                 let refused = unpack(&bytes) == Err(Refusal::SlipBits);

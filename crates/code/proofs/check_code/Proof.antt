@@ -1,7 +1,8 @@
 -- `check_code` meets its contract: each way out by its lemma.
 use mathlib.Core.Path.{_≡_, sym, _∙_}
+use native.Mathlib.Omega.{arith}
 use lib.ListN.{length}
-use Rattle.defs.specs.Limits.{numbersVerdict}
+use Rattle.defs.specs.Limits.{longest, numbersVerdict}
 use Rattle.defs.specs.declared.Verdict.the-variants.{Fine}
 use Rattle.theory.proofs.Limits.{numbers-known, count-small}
 use Rattle.code.proofs.Outcome.{refused-numbers, refused-high, refused-twice, passed}
@@ -17,7 +18,7 @@ module _ (c : tie.After-enum-told) where
   abbrev start : tie.Start
   start = numbers .before .before
 
-  fine : numbersVerdict (start .args .m) (start .args .r) (start .args .k) (length (start .args .points .now)) ≡ Fine
+  fine : numbersVerdict longest (start .args .m) (start .args .r) (start .args .k) (length (start .args .points .now)) ≡ Fine
   fine = sym (numbers .check-numbers .ensures) ∙ c .enum-told .given .1
 
 -- the points are looked through for the first time and for the second
@@ -50,7 +51,7 @@ enum-told : tie.Need-enum-told
 enum-told c = search needs
 
 first-high-requires : tie.Need-first-high-requires
-first-high-requires c κs = numbers-known _ _ _ _ (fine c) .width
+first-high-requires c κs = numbers-known longest _ _ _ _ (omega arith) (fine c) .width
 
 refused-requires-2 : tie.Need-refused-requires-2
 refused-requires-2 c κs = search needs
@@ -73,7 +74,7 @@ returns-3 c =
     ∙ refused-twice _ _ _ _ (fine (told (sought at))) _ (sought at .first-high .ensures) (low at .if1 .left) _ (at .first-twice .ensures) (c .before .if2 .taken)
 
 pad-requires : tie.Need-pad-requires
-pad-requires c κs = count-small (numbers-known _ _ _ _ (fine (told (sought (c .before)))))
+pad-requires c κs = count-small (numbers-known longest _ _ _ _ (omega arith) (fine (told (sought (c .before)))))
 
 returns-4 : tie.Need-returns-4
 returns-4 c =

@@ -20,7 +20,7 @@ module _ (c : tie.After-check-code) where
   abbrev start : tie.Start
   start = entered .before .before .before .before
 
-  verdict : c .check-code .result .verdict ≡ codeVerdict (start .args .m) (start .args .r) (start .args .k) (start .args .points .now)
+  verdict : c .check-code .result .verdict ≡ codeVerdict longest (start .args .m) (start .args .r) (start .args .k) (start .args .points .now)
   verdict = verdict-is _ _ _ _ _ (c .check-code .ensures)
 
 -- where the code has passed

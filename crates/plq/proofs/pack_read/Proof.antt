@@ -47,6 +47,12 @@ mul-result-5 c = search needs
 add-result-5 : tie.Need-add-result-5
 add-result-5 c = record { fits = omega (arith, low c) }
 
+mul-result-6 : tie.Need-mul-result-6
+mul-result-6 c = search needs
+
+add-result-6 : tie.Need-add-result-6
+add-result-6 c = record { fits = omega (arith, low c) }
+
 returns : tie.Need-returns
 returns c = search needs
 
@@ -66,4 +72,6 @@ pack-read-spec =
     add-result-4
     mul-result-5
     add-result-5
+    mul-result-6
+    add-result-6
     returns)

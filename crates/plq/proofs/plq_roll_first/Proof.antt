@@ -3,7 +3,7 @@ use Prim.Native.Nat.{_≤_}
 use mathlib.Core.Path.{ap, _∙_}
 use native.Mathlib.Omega.{arith}
 use Rattle.defs.specs.Refusal.{number}
-use Rattle.defs.specs.Slip.{slipSize}
+use Rattle.defs.specs.Slip.{headBits, slipSize}
 use Rattle.defs.specs.declared.Answer.{Answer}
 use Rattle.roll.proofs.Parts.{first-top}
 use Rattle.plq.proofs.Small.{number-small}
@@ -16,8 +16,8 @@ module _ (c : tie.After-first-size) where
   abbrev answered : Answer
   answered = c .before .before .roll-answer .result
 
-  small : c .first-size .result ≤ 259
-  unfolding slipSize
+  small : c .first-size .result ≤ 484
+  unfolding slipSize headBits
   small = omega (arith, c .first-size .ensures, first-top (c .before .before .before .before .args .roll .now))
 
 roll-answer-requires : tie.Need-roll-answer-requires

@@ -1,7 +1,7 @@
 -- `encode` meets its contract: each way out by its lemma.
 use mathlib.Core.Path.{_≡_, sym, _∙_}
 use native.Mathlib.Omega.{arith}
-use Rattle.defs.specs.Limits.{Inside, codeVerdict}
+use Rattle.defs.specs.Limits.{longest, Inside, codeVerdict}
 use Rattle.defs.specs.Encode.{symbolsVerdict}
 use Rattle.defs.specs.declared.Verdict.the-variants.{Fine}
 use Rattle.theory.proofs.Limits.{inside-known}
@@ -16,7 +16,7 @@ module _ (c : tie.After-check-code) where
   abbrev start : tie.Start
   start = c .before .before .before .before
 
-  verdict : c .check-code .result .verdict ≡ codeVerdict (start .args .m) (start .args .r) (start .args .k) (start .args .points .now)
+  verdict : c .check-code .result .verdict ≡ codeVerdict longest (start .args .m) (start .args .r) (start .args .k) (start .args .points .now)
   verdict = verdict-is _ _ _ _ _ (c .check-code .ensures)
 
 -- where the code has passed

@@ -7,16 +7,20 @@
 #[cfg(archive)]
 mod crash;
 #[cfg(archive)]
+mod quotas;
+#[cfg(archive)]
 mod run;
 #[cfg(archive)]
 mod tally;
+#[cfg(archive)]
+mod what;
 #[cfg(archive)]
 mod written;
 
 use std::process::ExitCode;
 
 /// Enough for every count that a run must reach, and quick enough for every gate.
-const USUAL_CASES: u64 = 320_000;
+const USUAL_CASES: u64 = 400_000;
 const USUAL_SEED: u64 = 1;
 
 /// How a run ends; the number is the program's exit status. A run that the archive's code stops ends with 3.

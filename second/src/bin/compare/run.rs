@@ -2,10 +2,13 @@
 
 use crate::crash;
 use crate::tally::Tally;
+use crate::what::{What, Writer};
 use crate::written::Written;
 use crate::Verdict;
 use second::archive::{Archive, Observed};
 use second::call::{hex, Call, Kind, Outcome};
+use second::generate::header::{EDITION, EDITIONS};
+use second::generate::Made;
 use second::reference::roll;
 use second::{archive, frame, generate, reference, worked};
 
@@ -27,13 +30,15 @@ pub fn compare(count: u64, seed: u64) -> Verdict {
             eprintln!("compare: this was case {index} of seed {seed}");
             return Verdict::Differ;
         }
-        if !walk_agrees(&made.call) || !written.follow(&mut archive, &made.call, &outcome) {
+        let Made { call, .. } = &made;
+        if !walk_agrees(call, &mut tally)
+            || !written.follow(&mut archive, &mut tally, call, &outcome)
+        {
             eprintln!("compare: this was case {index} of seed {seed}");
             return Verdict::Differ;
         }
         tally.count(&made, &outcome);
     }
-    tally.written = written;
     print!("{tally}");
     println!("compare: {count} cases agree");
     let missing = tally.missing();
@@ -48,20 +53,35 @@ pub fn compare(count: u64, seed: u64) -> Verdict {
 }
 
 /// Whether the walk over a roll, slip after slip to its end, is the one expected. True for every other call.
-fn walk_agrees(call: &Call) -> bool {
+fn walk_agrees(call: &Call, tally: &mut Tally) -> bool {
     if call.kind != Kind::RollFirst {
         return true;
     }
-    let (sizes, end) = roll::walk(&call.inputs[0]);
+    let roll = &call.inputs[0];
+    let (sizes, end) = roll::walk(roll);
     let number = end.map_or(0, |refusal| refusal.number());
-    let same = walk_of_archive(&call.inputs[0]) == (sizes, number);
+    let same = walk_of_archive(roll) == (sizes.clone(), number);
     if !same {
-        eprintln!(
-            "compare: the walk over a roll differs: {}",
-            hex(&call.inputs[0])
-        );
+        eprintln!("compare: the walk over a roll differs: {}", hex(roll));
+    }
+    if is_mixed(roll, &sizes) {
+        tally.meet(What::MixedRoll(Writer::Second));
     }
     same
+}
+
+/// Whether slips of both editions were found: their sizes are given.
+pub fn is_mixed(roll: &[u8], sizes: &[usize]) -> bool {
+    let mut rest = roll;
+    let mut found = [false; 2];
+    for size in sizes {
+        let edition = EDITION.read(rest);
+        for (is_found, number) in found.iter_mut().zip(EDITIONS) {
+            *is_found |= edition == Some(number);
+        }
+        rest = &rest[*size..];
+    }
+    found == [true; 2]
 }
 
 /// The sizes of the slips that the archive finds, and the number that ends its walk.

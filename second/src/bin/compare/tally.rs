@@ -1,274 +1,192 @@
-//! What a run has met, and whether that is enough.
+//! How often a run has met what it counts, and whether that is enough.
 
-use crate::written::Written;
-use second::call::{Call, Kind, Outcome};
-use second::generate::rolls::{Way, MOST_SLIPS};
-use second::generate::slips::{Change, Loose};
+use crate::quotas::quotas;
+use crate::what::{Dimension, Of, What, Writer};
+use second::call::{Call, Header, Kind, Outcome};
+use second::generate::codes::AROUND_LIMITS;
+use second::generate::header::told;
+use second::generate::slips::Change;
 use second::generate::{Made, Origin};
-use second::reference::code::{DEEPEST, LONGEST_ROW};
 use second::reference::line;
+use std::collections::BTreeMap;
 use std::fmt;
 
-/// Every number that a call can give is met at least this often.
-const LEAST_OF_A_NUMBER: u64 = 100;
-/// So are rows at exactly the radius that were accepted, and rows just beyond it that were refused.
-const LEAST_AT_THE_RADIUS: u64 = 1000;
-/// So many slips are given to line, half of them written ones that were changed.
-const LEAST_LINES: u64 = 100_000;
-
-/// So many rolls are given to roll_first, and of each way to make one so many; so many more come from the archive's writer.
-const LEAST_ROLLS: u64 = 20_000;
-const LEAST_OF_A_WAY: u64 = 1000;
-const LEAST_WRITTEN_ROLLS: u64 = 100;
-
-/// In so many slips of either writer one bit is changed that holds nothing, and so many have the spare bit or a fill bit.
-const LEAST_LOOSENED: u64 = 5000;
-const LEAST_OF_A_LOOSE_BIT: u64 = 1000;
-/// So many slips are read and written again.
-const LEAST_AGAIN: u64 = 5000;
-
-const NUMBERS: usize = 14;
-
+#[derive(Default)]
 pub struct Tally {
-    cases: u64,
-    /// How often each call gave each number, in the order of the calls.
-    answers: [[u64; NUMBERS]; Kind::ALL.len()],
-    /// How often the line began with each number.
-    printed: [u64; NUMBERS],
-    changed_lines: u64,
-    /// Slips of the second writer with one bit changed that holds nothing, read or given to line.
-    spare: u64,
-    fill: u64,
-    accepted_at_radius: u64,
-    refused_just_beyond: u64,
-    accepted_just_beyond: u64,
-    /// Codes that were decoded, by m and r and by the length of the row.
-    fields: [[u64; DEEPEST]; 3],
-    lengths: Vec<u64>,
-    /// Rolls, by the way they were made and by their slips.
-    ways: [u64; Way::ALL.len()],
-    slips: [u64; MOST_SLIPS + 1],
-    /// What was tried with slips that the archive wrote or read.
-    pub written: Written,
-}
-
-impl Default for Tally {
-    fn default() -> Tally {
-        Tally {
-            cases: 0,
-            answers: Default::default(),
-            printed: Default::default(),
-            changed_lines: 0,
-            spare: 0,
-            fill: 0,
-            accepted_at_radius: 0,
-            refused_just_beyond: 0,
-            accepted_just_beyond: 0,
-            fields: Default::default(),
-            lengths: Vec::new(),
-            ways: Default::default(),
-            slips: [0; MOST_SLIPS + 1],
-            written: Written::default(),
-        }
-    }
+    met: BTreeMap<What, u64>,
 }
 
 impl Tally {
+    pub fn meet(&mut self, what: What) {
+        *self.met.entry(what).or_insert(0) += 1;
+    }
+
+    /// Counts a call that agreed.
     pub fn count(&mut self, made: &Made, outcome: &Outcome) {
         let call = &made.call;
-        self.cases += 1;
-        let number = usize::from(outcome.answer.number);
-        self.answers[call.kind as usize - 1][number] += 1;
-        match made.origin {
-            Origin::Slip(Change::Loose(Loose::Spare)) => self.spare += 1,
-            Origin::Slip(Change::Loose(Loose::Fill)) => self.fill += 1,
+        let (kind, of, number) = (call.kind, Of::call(call), number_for(call, outcome));
+        self.meet(What::Call(kind));
+        if of != Of::None {
+            self.meet(What::CallOf(kind, of));
+        }
+        self.meet(What::Answer(kind, of, outcome.answer.number));
+        if kind == Kind::Line && outcome.answer.number == 0 {
+            self.meet(What::Printed(of, number));
+        }
+        match number {
+            11 => self.meet(What::OtherEdition(
+                kind,
+                Of::number(call).unwrap_or(0).min(16),
+            )),
+            10 if of == Of::Two && call.inputs[0].len() == 3 => self.meet(What::ThreeBytes(kind)),
+            0 | 9 if kind == Kind::Decode => self.count_decode(made, outcome),
             _ => (),
         }
-        match call.kind {
-            Kind::Decode if matches!(number, 0 | 9) => self.count_decode(made, outcome),
-            Kind::Line => self.count_line(made, outcome),
-            Kind::RollFirst => self.count_roll(made),
+        self.count_origin(made, number);
+        if let Some(header) = said(call) {
+            self.count_limits(kind, of, header, number);
+        }
+    }
+
+    fn count_origin(&mut self, made: &Made, number: u8) {
+        match made.origin {
+            Origin::Slip(Change::Loose(bit)) if number == 13 => {
+                self.meet(What::Loosened(Writer::Second, bit));
+            }
+            Origin::Roll(slips, way) => {
+                self.meet(What::RollOfSo(slips));
+                self.meet(What::Roll(way));
+            }
             _ => (),
+        }
+        let changed = matches!(made.origin, Origin::Slip(Change::Loose(_) | Change::Any));
+        if changed && made.call.kind == Kind::Line {
+            self.meet(What::ChangedLine);
         }
     }
 
     fn count_decode(&mut self, made: &Made, outcome: &Outcome) {
-        let Call {
-            numbers, inputs, ..
-        } = &made.call;
-        let (m, r, k, n) = (numbers[0], numbers[1], numbers[2], inputs[1].len());
-        self.fields[m.ilog2() as usize - 1][r - 1] += 1;
-        self.lengths.resize(LONGEST_ROW + 1, 0);
-        self.lengths[n] += 1;
+        let [m, r, k] = made.call.code_numbers();
+        let n = made.call.inputs[1].len();
+        self.meet(What::Decoded(m, r));
+        self.meet(What::Length(n));
         let accepted = outcome.answer.number == 0;
         let radius = (n - k) / 2;
         // With radius 0 every accepted row lies at it, so those show nothing.
         if accepted && radius > 0 && outcome.answer.detail == radius {
-            self.accepted_at_radius += 1;
+            self.meet(What::AtTheRadius);
         }
-        match (made.origin, accepted) {
-            (Origin::JustBeyond, false) => self.refused_just_beyond += 1,
-            (Origin::JustBeyond, true) => self.accepted_just_beyond += 1,
-            _ => (),
+        if made.origin == Origin::JustBeyond {
+            self.meet(What::JustBeyond { accepted });
         }
     }
 
-    fn count_line(&mut self, made: &Made, outcome: &Outcome) {
-        if matches!(made.origin, Origin::Slip(Change::Loose(_) | Change::Any)) {
-            self.changed_lines += 1;
+    /// Counts where the row's length or k, which a call or a header says, is at a limit and decides.
+    fn count_limits(&mut self, kind: Kind, of: Of, header: Header, number: u8) {
+        let Header { m, r, count, k, .. } = header;
+        let Some(n) = r.checked_mul(count) else {
+            return;
+        };
+        let taken = matches!(number, 0 | 9);
+        let refused = match kind {
+            Kind::Distance => number == 7,
+            _ => number == 3 && count <= 1 << m,
+        };
+        if AROUND_LIMITS.contains(&n) && (taken || refused) {
+            self.meet(What::Row { kind, of, n, taken });
         }
-        if outcome.answer.number == 0 {
-            self.printed[line::number(&outcome.buffers[0])] += 1;
+        let dimensions = [
+            (Dimension::One, taken && k == 1),
+            (Dimension::All, taken && k == n),
+            (Dimension::OneMore, number == 4 && k == n + 1),
+            (Dimension::None, number == 4 && k == 0),
+        ];
+        for (dimension, is_met) in dimensions {
+            if is_met {
+                self.meet(What::K(kind, of, dimension));
+            }
         }
-    }
-
-    fn count_roll(&mut self, made: &Made) {
-        if let Origin::Roll(slips, way) = made.origin {
-            self.ways[way as usize] += 1;
-            self.slips[slips] += 1;
-        }
-    }
-
-    fn calls(&self, kind: Kind) -> u64 {
-        self.answers[kind as usize - 1].iter().sum()
-    }
-
-    fn lines(&self) -> u64 {
-        self.calls(Kind::Line)
-    }
-
-    fn lengths_met(&self) -> usize {
-        self.lengths.iter().filter(|count| **count > 0).count()
     }
 
     /// A complaint for each count that was not reached.
     pub fn missing(&self) -> Vec<String> {
-        let mut complaints = Vec::new();
-        let mut ask = |met: u64, least: u64, what: String| {
-            if met < least {
-                complaints.push(format!("{what}: met {met} times, not {least}"));
-            }
+        let complaint = |(what, least): (What, u64)| {
+            let met = self.met.get(&what).copied().unwrap_or(0);
+            let (family, which) = what.words();
+            (met < least).then(|| format!("{family}: {which} met {met} times, not {least}"))
         };
-        for (kind, answers) in Kind::ALL.iter().zip(&self.answers) {
-            for number in kind.answers() {
-                let what = format!("{} answering {number}", kind.name());
-                ask(answers[usize::from(*number)], LEAST_OF_A_NUMBER, what);
-            }
-        }
-        for number in line::NUMBERS {
-            let what = format!("a line that begins with {number}");
-            ask(self.printed[usize::from(number)], LEAST_OF_A_NUMBER, what);
-        }
-        for (depths, m) in self.fields.iter().zip([2, 4, 8]) {
-            for (count, r) in depths.iter().zip(1..) {
-                ask(
-                    *count,
-                    LEAST_OF_A_NUMBER,
-                    format!("a decoded row with m {m}, r {r}"),
-                );
-            }
-        }
-        let at = LEAST_AT_THE_RADIUS;
-        ask(self.accepted_at_radius, at, "a row at the radius".into());
-        ask(self.refused_just_beyond, at, "a row just beyond it".into());
-        ask(self.lines(), LEAST_LINES, "a slip for line".into());
-        let half = self.lines() / 2;
-        ask(self.changed_lines, half, "a changed slip for line".into());
-        let rolls = self.calls(Kind::RollFirst);
-        ask(rolls, LEAST_ROLLS, "a roll for roll_first".into());
-        for (way, count) in Way::ALL.iter().zip(self.ways) {
-            ask(count, LEAST_OF_A_WAY, format!("a roll {}", way.name()));
-        }
-        for (slips, count) in self.slips.iter().enumerate() {
-            let what = format!("a roll of {slips} slips");
-            ask(*count, LEAST_OF_A_NUMBER, what);
-        }
-        let written = "a roll of slips that the archive wrote".into();
-        ask(self.written.rolls, LEAST_WRITTEN_ROLLS, written);
-        for (writer, count) in [
-            ("the second program", self.spare + self.fill),
-            ("the archive", self.written.loosened),
-        ] {
-            let what = format!("a slip of {writer} with one spare or fill bit changed");
-            ask(count, LEAST_LOOSENED, what);
-        }
-        for (bit, count) in [("spare", self.spare), ("fill", self.fill)] {
-            let what = format!("a {bit} bit changed alone");
-            ask(count, LEAST_OF_A_LOOSE_BIT, what);
-        }
-        let again = "a slip read and written again".into();
-        ask(self.written.again, LEAST_AGAIN, again);
-        let lengths = self.lengths_met() as u64;
-        ask(
-            lengths,
-            LONGEST_ROW as u64,
-            "a length of decoded rows".into(),
-        );
-        complaints
+        let mut missing: Vec<String> = quotas().into_iter().filter_map(complaint).collect();
+        missing.extend(Kind::ALL.into_iter().filter_map(|kind| self.uneven(kind)));
+        missing
+    }
+
+    /// A complaint where a call met one edition more often than the other, by more than a tenth.
+    fn uneven(&self, kind: Kind) -> Option<String> {
+        let met = |of: Of| self.met.get(&What::CallOf(kind, of)).copied().unwrap_or(0);
+        let (one, two) = (met(Of::One), met(Of::Two));
+        let is_even = one * 10 >= two * 9 && two * 10 >= one * 9;
+        (!is_even).then(|| format!("{kind:?}: edition 1 met {one} times, edition 2 {two} times"))
     }
 }
+
+/// The number that the outcome has for the call's slip: in a line that was written the one that it begins with.
+fn number_for(call: &Call, outcome: &Outcome) -> u8 {
+    match (call.kind, outcome.answer.number) {
+        (Kind::Line, 0) => line::number(&outcome.buffers[0]) as u8,
+        (_, number) => number,
+    }
+}
+
+/// The code that the call or its slip's header speaks of, checked by nobody. Of two rows, their length.
+fn said(call: &Call) -> Option<Header> {
+    match call.kind {
+        Kind::Encode | Kind::Decode | Kind::SlipWrite => Some(call.header()),
+        Kind::SlipRead | Kind::Line | Kind::RollFirst => told(&call.inputs[0]),
+        Kind::Distance => {
+            let (r, [a, b]) = (
+                call.numbers[0],
+                [0, 1].map(|row: usize| call.inputs[row].len()),
+            );
+            let fits = (1..=8).contains(&r) && a == b && a % r == 0;
+            fits.then(|| Header {
+                r,
+                count: a / r,
+                ..Header::default()
+            })
+        }
+    }
+}
+
+/// Most families are one line: each of their counts. A large one shows how many were met, and the least count.
+const SHOWN: usize = 20;
 
 impl fmt::Display for Tally {
     fn fmt(&self, out: &mut fmt::Formatter) -> fmt::Result {
-        write!(out, "{:<12}", "number")?;
-        for number in 0..NUMBERS {
-            write!(out, "{number:>7}")?;
+        let mut families: Vec<(String, Vec<(String, u64)>)> = Vec::new();
+        for (what, count) in &self.met {
+            let (family, which) = what.words();
+            match families.iter_mut().find(|(name, _)| *name == family) {
+                Some((_, counts)) => counts.push((which, *count)),
+                None => families.push((family, vec![(which, *count)])),
+            }
         }
-        writeln!(out)?;
-        for (kind, answers) in Kind::ALL.iter().zip(&self.answers) {
-            write_counts(out, kind.name(), answers)?;
+        for (family, counts) in families {
+            write!(out, "{family}:")?;
+            if counts.len() > SHOWN {
+                let least = counts.iter().map(|(_, count)| count).min();
+                writeln!(
+                    out,
+                    " {} met, each {} times or more",
+                    counts.len(),
+                    least.unwrap_or(&0)
+                )?;
+                continue;
+            }
+            for (which, count) in counts {
+                write!(out, " {which}: {count};")?;
+            }
+            writeln!(out)?;
         }
-        write_counts(out, "printed", &self.printed)?;
-        for (depths, m) in self.fields.iter().zip([2, 4, 8]) {
-            writeln!(out, "rows decoded with m {m}, r 1 to 8: {depths:?}")?;
-        }
-        writeln!(
-            out,
-            "lengths of decoded rows: {} of 128",
-            self.lengths_met()
-        )?;
-        writeln!(
-            out,
-            "accepted at exactly the radius: {}",
-            self.accepted_at_radius
-        )?;
-        writeln!(
-            out,
-            "damaged to just beyond the radius: {} refused, {} nearer to another message",
-            self.refused_just_beyond, self.accepted_just_beyond
-        )?;
-        writeln!(
-            out,
-            "slips for line: {}, of them {} written and then changed",
-            self.lines(),
-            self.changed_lines
-        )?;
-        write!(out, "rolls for roll_first:")?;
-        for (way, count) in Way::ALL.iter().zip(self.ways) {
-            write!(out, " {} {count};", way.name())?;
-        }
-        writeln!(
-            out,
-            " {} more of slips that the archive wrote",
-            self.written.rolls
-        )?;
-        writeln!(
-            out,
-            "slips with one bit changed that holds nothing: {} spare, {} fill; {} more of slips that the archive wrote",
-            self.spare, self.fill, self.written.loosened
-        )?;
-        writeln!(
-            out,
-            "slips that the archive read and wrote again: {}",
-            self.written.again
-        )
+        Ok(())
     }
-}
-
-fn write_counts(out: &mut fmt::Formatter, name: &str, counts: &[u64]) -> fmt::Result {
-    write!(out, "{name:<12}")?;
-    for count in counts {
-        write!(out, "{count:>7}")?;
-    }
-    writeln!(out)
 }

@@ -3,7 +3,7 @@
 use second::call::RawCode;
 use second::generate::damage;
 use second::random::Random;
-use second::reference::code::Code;
+use second::reference::code::{Code, LONGEST_ROW};
 use second::reference::rows::row_of;
 
 /// How many rows each figure is taken over.
@@ -34,12 +34,12 @@ impl Setting {
     }
 }
 
-/// Every code with n = 8, 32, 64, 128 and r = 1, 2, 8 that exists: n / r points need a field that has them.
+/// Every code with n = 8, 32, 64, 128, 240 and r = 1, 2, 8 that exists: n / r points need a field that has them.
 pub fn settings() -> Vec<Setting> {
     let mut settings = Vec::new();
     for m in [2, 4, 8] {
         for r in [1, 2, 8] {
-            for n in [8, 32, 64, 128] {
+            for n in [8, 32, 64, 128, LONGEST_ROW] {
                 if n / r <= 1 << m {
                     settings.push(Setting { m, r, n });
                 }

@@ -4,14 +4,17 @@ use crate::fec::{Fec, Library};
 use crate::inputs::{samples, settings, Damage, Sample, Setting};
 use crate::machine::{machine, today};
 use crate::measure::{Figure, RUNS};
-use crate::rolls::{walks, Walk};
+use crate::rolls::{walks, Walk, LONGEST_SLIP};
 use crate::sides::{decode_figure, encode_figure, fec_decode_figure, fec_encode_figure};
 use crate::stack::stack_use;
 use second::archive::{self, CodeRef};
+use second::reference::code::LONGEST_ROW;
 use std::fmt::Write;
 
-/// The size of the longest slip.
-const LONGEST_SLIP: usize = 259;
+/// The length of the longest line.
+const LONGEST_LINE: usize = 1448;
+/// A thread with this stack is enough for every call.
+const ENOUGH: usize = 128 * 1024;
 
 /// The page. Each line of a table is also printed as soon as it is known.
 pub fn report() -> String {
@@ -168,15 +171,18 @@ fn line(page: &mut String, start: &str, figure: Figure) {
     page.push('\n');
 }
 
-/// The stack that each call takes for a row of 128.
+/// The stack that each call takes for the longest row.
 fn stack_table(page: &mut String) {
     let uses = stack_uses();
     let deepest = uses.iter().map(|(_, bytes)| *bytes).max().unwrap_or(0);
+    assert!(deepest < ENOUGH, "a call takes {deepest} bytes of stack");
     let _ = write!(
         page,
-        "\n## Stack\n\nBytes of stack for m 8, r 1, n 128, k 64, found by running each call on a stack filled with a\n\
-         pattern, beyond those of a thread that does nothing: 0 is a call that takes no more than that. A thread with a stack of 64 KiB has 65536; the call that takes most takes {deepest}.\n\n\
+        "\n## Stack\n\nBytes of stack for m 8, r 1, n 240, k 120, slips of edition 2, found by running each call on a stack filled\n\
+         with a pattern, beyond those of a thread that does nothing: 0 is a call that takes no more than that. A thread with a\n\
+         stack of {} KiB has {ENOUGH}; the call that takes most takes {deepest}.\n\n\
          | call | bytes |\n|---|---|\n",
+        ENOUGH / 1024
     );
     for (name, bytes) in uses {
         println!("stack of {name}: {bytes} bytes");
@@ -185,14 +191,19 @@ fn stack_table(page: &mut String) {
 }
 
 fn stack_uses() -> Vec<(&'static str, usize)> {
-    let setting = Setting { m: 8, r: 1, n: 128 };
+    let setting = Setting {
+        m: 8,
+        r: 1,
+        n: LONGEST_ROW,
+    };
     let samples = samples(setting, Damage::FullRadius);
     let Sample { code, message, row } = &samples[0];
     let code = CodeRef::from(code);
-    let mut out = [0; 128];
-    let mut found = [0; 64];
+    let mut out = [0; LONGEST_ROW];
+    let mut other = [0; LONGEST_ROW];
+    let mut found = [0; LONGEST_ROW / 2];
     let mut slip = [0; LONGEST_SLIP];
-    let mut text = [0; 800];
+    let mut text = [0; LONGEST_LINE];
     vec![
         (
             "encode",
@@ -208,11 +219,11 @@ fn stack_uses() -> Vec<(&'static str, usize)> {
         ),
         (
             "slip_write",
-            stack_use(&mut || _ = archive::slip_write(code, row, &mut slip)),
+            stack_use(&mut || _ = archive::slip_write(2, code, row, &mut slip)),
         ),
         (
             "slip_read",
-            stack_use(&mut || _ = archive::slip_read(&slip, &mut out, &mut [0; 128])),
+            stack_use(&mut || _ = archive::slip_read(&slip, &mut out, &mut other)),
         ),
         (
             "line",

@@ -14,22 +14,29 @@ pub struct Walk {
     pub ratio: f64,
 }
 
+/// The size of the longest slip.
+pub const LONGEST_SLIP: usize = 484;
+
 /// The longest roll that is measured; the others have a half, a quarter and an eighth of it.
 const LONGEST: usize = 65_536;
 
-/// Rolls of the shortest slips and of the longest.
+/// Rolls of the shortest slips and of the longest, in either edition.
 pub fn walks() -> Vec<Walk> {
-    let shortest = slip(2, 1);
-    let longest = slip(8, 128);
+    let slips = [
+        slip(1, 2, 1),
+        slip(1, 8, 128),
+        slip(2, 2, 1),
+        slip(2, 8, 240),
+    ];
     let sizes = [LONGEST / 8, LONGEST / 4, LONGEST / 2, LONGEST];
-    [&shortest, &longest]
-        .into_iter()
+    slips
+        .iter()
         .flat_map(|slip| sizes.map(|bytes| measure(slip, bytes)))
         .collect()
 }
 
 /// A slip with one symbol at each of the first points.
-fn slip(m: usize, count: usize) -> Vec<u8> {
+fn slip(edition: usize, m: usize, count: usize) -> Vec<u8> {
     let points: Vec<u8> = (0..count).map(|point| point as u8).collect();
     let code = CodeRef {
         m,
@@ -37,8 +44,8 @@ fn slip(m: usize, count: usize) -> Vec<u8> {
         k: 1,
         points: &points,
     };
-    let mut bytes = [0; 259];
-    let answer = archive::slip_write(code, &vec![1; count], &mut bytes);
+    let mut bytes = [0; LONGEST_SLIP];
+    let answer = archive::slip_write(edition, code, &vec![1; count], &mut bytes);
     assert_eq!(answer as u8, 0, "a fine slip is written");
     bytes[..(answer >> 8) as usize].to_vec()
 }
