@@ -1,5 +1,5 @@
 -- A slip turned into one of the other edition: one outcome, when it is done, what stays, and over and back.
-use Prim.Native.Nat.{ℕ, _+_, _*_, _/_, _≤_}
+use Prim.Native.Nat.{ℕ, _+_, _*_, _≤_}
 use mathlib.Core.Bool.{true, false, _||_}
 use mathlib.Core.Path.{_≡_, refl, ap, sym, _∙_}
 use mathlib.Core.List.{List}
@@ -10,7 +10,7 @@ use borrow.Author.Tests.{ltb-false, le-ltb, eqb-true, not-false}
 use Rattle.defs.specs.Place.{Symbols}
 use Rattle.defs.specs.Refusal.{refuse, andThen, answer, kept}
 use Rattle.defs.specs.Limits.{longest, firstTwice, Within}
-use Rattle.defs.specs.Slip.{isEdition, layoutOf, headBits, slipSize, slipOf, editionIn, layoutIn, widthIn, depthIn, countIn, dimensionIn, sizeIn, pointsIn, rowIn}
+use Rattle.defs.specs.Slip.{isEdition, layoutOf, headBits, headSize, slipSize, slipOf, editionIn, layoutIn, widthIn, depthIn, countIn, dimensionIn, sizeIn, pointsIn, rowIn}
 use Rattle.defs.specs.Write.{front}
 use Rattle.defs.specs.Read.{firstVerdictOf, headVerdict, readVerdict, Read}
 use Rattle.defs.specs.Decode.{Decoded}
@@ -104,10 +104,10 @@ module _ (from to : ℕ) (wanted : isEdition to ≡ true) (slip : List ℕ) (t :
   abbrev k : ℕ
   k = dimensionIn slip
 
-  within : Within (layoutOf to .top) m r k (pointsIn slip)
+  pub within : Within (layoutOf to .top) m r k (pointsIn slip)
   within = limits-within _ _ _ _ (pointsIn slip) (limits slip longest longest (t .readable)) (rw (length-points slip) (t .short))
 
-  row-is : length (rowIn slip) ≡ r * length (pointsIn slip)
+  pub row-is : length (rowIn slip) ≡ r * length (pointsIn slip)
   row-is = length-row slip ∙ rw (length-points slip)
 
   pub edition-new : editionIn (turned to slip) ≡ to
@@ -138,7 +138,7 @@ module _ (from to : ℕ) (wanted : isEdition to ≡ true) (slip : List ℕ) (t :
       (omega (arith, length-points slip, count-small n)) (omega (arith, length-row slip, n .row-top))
 
   -- THE HEADER ALONE has another size
-  pub size-kept : length (turned to slip) + headBits (layoutOf from) / 8 ≡ length slip + headBits (layoutOf to) / 8
+  pub size-kept : length (turned to slip) + headSize (layoutOf from) ≡ length slip + headSize (layoutOf to)
   unfolding slipSize sizeIn layoutIn
   size-kept =
       let new : length (turned to slip) ≡ slipSize (layoutOf to) m (countIn slip + r * countIn slip) = length-turned to slip ∙ rw (length-points slip, length-row slip) in
