@@ -6,6 +6,7 @@ pub mod Taken
 pub mod RoundTrip
 pub mod Turn
 pub mod TurnRefusals
+pub mod TurnCalls
 pub mod Slip
 pub mod Header
 pub mod Enough

@@ -104,10 +104,10 @@ module _ (from to : ℕ) (wanted : isEdition to ≡ true) (slip : List ℕ) (t :
   abbrev k : ℕ
   k = dimensionIn slip
 
-  within : Within (layoutOf to .top) m r k (pointsIn slip)
+  pub within : Within (layoutOf to .top) m r k (pointsIn slip)
   within = limits-within _ _ _ _ (pointsIn slip) (limits slip longest longest (t .readable)) (rw (length-points slip) (t .short))
 
-  row-is : length (rowIn slip) ≡ r * length (pointsIn slip)
+  pub row-is : length (rowIn slip) ≡ r * length (pointsIn slip)
   row-is = length-row slip ∙ rw (length-points slip)
 
   pub edition-new : editionIn (turned to slip) ≡ to
