@@ -1,5 +1,5 @@
 -- A slip turned into one of the other edition: what the two calls answer, and what they leave in the bytes, for every input.
-use Prim.Native.Nat.{ℕ, _+_, _*_}
+use Prim.Native.Nat.{ℕ, _*_}
 use mathlib.Core.Path.{_≡_}
 use mathlib.Core.List.{List}
 use lib.Dec.{eqb, ltb}
@@ -18,7 +18,7 @@ use Rattle.defs.specs.declared.Answer.{Answer}
 unfoldable pub turned : ℕ → List ℕ → List ℕ
 turned to slip = slipOf (layoutOf to) (widthIn slip) (depthIn slip) (dimensionIn slip) (pointsIn slip) (rowIn slip)
 
--- 11 for the other edition too, the reader's with room for every row; 15 for a row that doesn't fit the new edition; 7;
+-- 11 for the other edition too, the reader's with room for every row; 15 for a row too long for the edition to; 7;
 -- size is the length of the byte buffer
 unfoldable pub turnVerdict : ℕ → ℕ → List ℕ → ℕ → Verdict
 turnVerdict from to slip size = andThen (firstVerdictOf (eqb from) slip) (andThen (readVerdict slip longest longest)
