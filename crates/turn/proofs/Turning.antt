@@ -167,7 +167,7 @@ module _ {slip points row points′ row′ : List ℕ} {s : SlipRead} (points-ro
     unfolding reading
     row-lent = rw is (row-fits took d done)
 
-    -- L is the layout of the new edition
+    -- L is the layout of the edition to
     module _ {from to : ℕ} {bytes : List ℕ} (own : firstVerdictOf (eqb from) slip ≡ firstVerdict slip) (L : Layout) (laid : L ≡ layoutOf to) where
       pub turned-long : L .top < s .r * s .count → Turned from to slip bytes (No RowLong) bytes
       unfolding reading
