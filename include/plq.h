@@ -14,7 +14,8 @@
  * damaged to depth r, one whose last alone is wrong to depth 1. The distance of two rows is the sum over the chunks.
  *
  * EDITIONS. A slip stores a code and a row. There are two layouts: edition 1 holds rows of at most 128 symbols, edition 2 of at
- * most 240. The writer is told which to write; the reader and the roll's call take both, also mixed in one roll.
+ * most 240. The writer is told which to write; the reader and the roll's call take both, also mixed in one roll. Two calls turn a
+ * slip of one edition into the same slip of the other.
  *
  * SLICES. Each slice is a pointer and, behind it, its length. Input slices are read only; slices that are not `const`
  * are buffers that the call may write. A buffer may not overlap another slice of the same call. Reads and writes stay
@@ -57,9 +58,11 @@ enum plq_number {
     PLQ_SYMBOL_HIGH = 8,    /* a symbol of the message or row is 2^m or more; detail: the least such index */
     PLQ_TOO_FAR = 9,        /* no message has a row within floor((n - k) / 2) of this one */
     PLQ_SLIP_SHORT = 10,    /* the slip is shorter than 3 bytes, its header or its own size */
-    PLQ_SLIP_EDITION = 11,  /* the edition of the slip, or the one asked for, is neither 1 nor 2 */
+    PLQ_SLIP_EDITION = 11,  /* the edition of the slip, or the one asked for, is neither 1 nor 2; plq_to_new: it is not 1,
+                             * plq_to_old: it is not 2 */
     PLQ_SLIP_LONG = 12,     /* the slip is longer than its own size */
-    PLQ_SLIP_BITS = 13      /* a zero or fill bit of the slip is not 0 */
+    PLQ_SLIP_BITS = 13,     /* a zero or fill bit of the slip is not 0 */
+    PLQ_ROW_LONG = 15       /* n is above 128, so edition 1 has no room for the row */
 };
 
 /* A cast that is clean in either language; for the macros below alone. */
@@ -165,6 +168,30 @@ uint64_t plq_line(const uint8_t *slip, size_t slip_len,
  * 3, 4, shorter than its size 10. The header alone finds the end; its zero bits, the points, the row and the fill are not
  * looked at, and plq_slip_read may still refuse the slip with 13 or 6. */
 uint64_t plq_roll_first(const uint8_t *roll, size_t roll_len);
+
+/* Turns a slip of edition 1 into one of edition 2. m, r, k, points and row stay as they are, and so do the line and every answer of
+ * plq_decode; plq_to_old gives the first bytes again.
+ *
+ *   slip     of edition 1, nothing before it and nothing behind it
+ *   bytes    at least slip_len + 1, the size of the new slip; bytes behind it are kept (PLQ_MAX_SLIP is always enough)
+ *
+ * Answers number | detail << 8; the detail of a done call is the size of the new slip. Tries, in this order: fewer than 3 bytes 10,
+ * another edition than 1 11, then 1, 3, 4, shorter than its size 10, then 12, 13, 6, 7. With room it is done for every slip of
+ * edition 1 that plq_slip_read reads. */
+uint64_t plq_to_new(const uint8_t *slip, size_t slip_len,
+                    uint8_t *bytes, size_t bytes_len);
+
+/* And back: turns a slip of edition 2 into one of edition 1, if its n is at most 128. m, r, k, points and row stay as they are, and
+ * so do the line and every answer of plq_decode; plq_to_new gives the first bytes again.
+ *
+ *   slip     of edition 2, nothing before it and nothing behind it
+ *   bytes    at least slip_len - 1, the size of the new slip; bytes behind it are kept (PLQ_MAX_SLIP is always enough)
+ *
+ * Answers number | detail << 8; the detail of a done call is the size of the new slip. Tries, in this order: fewer than 3 bytes 10,
+ * another edition than 2 11, fewer than 4 bytes 10, then 1, 3, 4, shorter than its size 10, then 12, 13, 6, n above 128 15, then 7.
+ * With room it is done for every slip of edition 2 that plq_slip_read reads and whose n is at most 128. */
+uint64_t plq_to_old(const uint8_t *slip, size_t slip_len,
+                    uint8_t *bytes, size_t bytes_len);
 
 #ifdef __cplusplus
 }

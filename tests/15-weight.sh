@@ -1,13 +1,13 @@
 #!/usr/bin/env bash
 # What the archive takes of a meter's memory, in bytes on x86-64. It builds nothing: it weighs what 10-archive.sh built. A table
-# of the 1,024 parities of binomials is to stay out. As data it alone is above below_data. The compiler once made it into code that
-# wrote it on the stack, of 3,782 bytes: below_encoder and below_code leave less room than that, for encode and for any call.
+# of the 1,024 parities of binomials is to stay out. As data it is far above what below_data leaves. The compiler once made it into
+# code that wrote it on the stack, of 3,782 bytes: below_encoder and below_code leave less room than that, for encode and for any call.
 # A landing that adds calls, or makes one longer, weighs again and raises below_code and below_data, with the same slack.
 source "$(dirname "$0")/common.bash"
 archive=target/staticlib/libplq.a
-below_data=968     # 952 and a constant of 16
-below_code=48609   # 46,609 and a slack of 2,000
-below_encoder=1996 # 1,934 and a slack of 62
+below_data=1528    # 1,512 and a constant of 16
+below_code=50390   # 48,390 and a slack of 2,000
+below_encoder=2106 # 2,044 and a slack of 62
 
 # weighed FILE: its sections and their sizes
 weighed() { size -A "$1" >"$dir/sections" || fail "size failed on $1"; }

@@ -105,6 +105,26 @@ static void both_editions(void) {
     }
 }
 
+/* The six bytes as the seven, and back. */
+static void over_and_back(void) {
+    fresh();
+    answers("to_new", plq_to_new(six, 6, slip, 8), PLQ_DONE, 7);
+    holds("the slip of edition 2", slip, seven, 7);
+    kept("behind the slip of edition 2", slip + 7, 1);
+    fresh();
+    answers("to_old", plq_to_old(seven, 7, slip, 7), PLQ_DONE, 6);
+    holds("the slip of edition 1", slip, six, 6);
+    kept("behind the slip of edition 1", slip + 6, 1);
+    fresh();
+    answers("to_new, room for six", plq_to_new(six, 6, slip, 6), PLQ_BAD_LENGTH, 0);
+    answers("to_old, room for five", plq_to_old(seven, 7, slip, 5), PLQ_BAD_LENGTH, 0);
+    answers("to_new of edition 2", plq_to_new(seven, 7, slip, sizeof slip), PLQ_SLIP_EDITION, 0);
+    answers("to_old of edition 1", plq_to_old(six, 6, slip, sizeof slip), PLQ_SLIP_EDITION, 0);
+    answers("to_new of three bytes of edition 2", plq_to_new(seven, 3, slip, sizeof slip), PLQ_SLIP_EDITION, 0);
+    answers("to_old of three bytes of edition 2", plq_to_old(seven, 3, slip, sizeof slip), PLQ_SLIP_SHORT, 0);
+    kept("a slip that was not turned", slip, sizeof slip);
+}
+
 /* A walk from slip to slip: the six bytes, the smallest slip of either edition (0001 00 000 0000000 0000000 0 and
  * 0010 00 000 00000000 00000000 0000000, point 0, symbol 1), the seven bytes, and the end. */
 static void a_roll(void) {
@@ -228,6 +248,20 @@ static const struct {
     {"points 1 1 in edition 2", {0x20, 0x00, 0x80, 0x00, 0x50}, 5, PLQ_POINT_TWICE, 1, "6 1\n", 5},
 };
 
+/* The call that turns slips of this edition refuses what the reader refuses, the other one with 11 what says an edition. */
+static void not_turned(const char *name, const uint8_t *bytes, size_t count, enum plq_number number, size_t detail) {
+    uint64_t (*const turns[2])(const uint8_t *, size_t, uint8_t *, size_t) = {plq_to_new, plq_to_old};
+    for (size_t edition = 1; edition <= 2; edition++) {
+        const size_t rooms[2] = {0, sizeof slip};
+        int own = count < 3 || bytes[0] / 16u == edition;
+        for (size_t i = 0; i < 2; i++) {
+            uint64_t answer = turns[edition - 1](bytes, count, slip, rooms[i]);
+            answers(name, answer, own ? number : PLQ_SLIP_EDITION, own ? detail : 0);
+        }
+    }
+    kept(name, slip, sizeof slip);
+}
+
 static void refused_by_the_reader(void) {
     const uint8_t spare[6] = {0x10, 0x83, 0x07, 0x1B, 0x73, 0xB8};
     uint64_t answer;
@@ -247,6 +281,7 @@ static void refused_by_the_reader(void) {
         } else {
             fact(name, PLQ_NUMBER(answer) == refused_slips[i].number && PLQ_ROLL_SIZE(answer) == 0);
         }
+        not_turned(name, refused_slips[i].bytes, refused_slips[i].count, refused_slips[i].number, refused_slips[i].detail);
         answer = plq_line(refused_slips[i].bytes, refused_slips[i].count, text, sizeof text);
         answers(name, answer, PLQ_DONE, strlen(expected));
         holds(name, text, expected, strlen(expected));
@@ -300,6 +335,34 @@ static void limits_of_editions(void) {
     answers("edition 3, and m is 3", plq_slip_write(3, 3, 9, 0, points, 0, high, 1, slip, 0), PLQ_SLIP_EDITION, 0);
     answers("edition 2^8 + 1", plq_slip_write(257, 2, 2, 4, four, 4, sent, 8, slip, 6), PLQ_SLIP_EDITION, 0);
     kept("a slip that was not written", slip, sizeof slip);
+}
+
+/* Edition 1 has room for 128 symbols: 0010 10 000 01111111 01111111 0000000 is turned, points and row as they stand, and 129 to
+ * 240 are refused with 15, whatever room there is. */
+static void limits_of_turning(void) {
+    static uint8_t newer[PLQ_MAX_SLIP];
+    const uint8_t head[3] = {0x18, 0x7F, 0xFE};
+    const size_t longer[3] = {129, 239, 240};
+    fresh();
+    answers("128 in edition 2", plq_slip_write(2, 8, 1, 128, points, 128, high, 128, newer, 260), PLQ_DONE, 260);
+    answers("128 to old", plq_to_old(newer, 260, slip, 260), PLQ_DONE, 259);
+    holds("its header, 0001 10 000 1111111 1111111 0", slip, head, 3);
+    holds("its points and row", slip + 3, newer + 4, 256);
+    kept("behind it", slip + 259, 1);
+    memset(newer, BEFORE, sizeof newer);
+    answers("128 to new", plq_to_new(slip, 259, newer, 260), PLQ_DONE, 260);
+    holds("its points and row again", newer + 4, slip + 3, 256);
+    fresh();
+    for (size_t i = 0; i < COUNT_OF(longer); i++) {
+        size_t n = longer[i], size = 4 + 2 * n;
+        answers("a longer row", plq_slip_write(2, 8, 1, 1, points, n, high, n, newer, size), PLQ_DONE, size);
+        answers("a longer row to old", plq_to_old(newer, size, slip, sizeof slip), PLQ_ROW_LONG, 0);
+        answers("a longer row to old, no room", plq_to_old(newer, size, slip, 0), PLQ_ROW_LONG, 0);
+        answers("a longer row to old, a byte less", plq_to_old(newer, size - 1, slip, 0), PLQ_SLIP_SHORT, 0);
+        newer[3] |= 1;
+        answers("a longer row to old, a zero bit", plq_to_old(newer, size, slip, 0), PLQ_SLIP_BITS, 0);
+    }
+    kept("a slip that was not turned", slip, sizeof slip);
 }
 
 /* k = n = 240 points: any row is that of one message, here 255 in every coefficient. */
@@ -357,6 +420,11 @@ static void null_slices(void) {
     kept("another buffer beside a null one", other, sizeof other);
     kept("a slip beside a null row", slip, sizeof slip);
     answers("roll_first, no roll", plq_roll_first(NULL, 0), PLQ_DONE, 0);
+    answers("to_new, no slip", plq_to_new(NULL, 0, slip, 7), PLQ_SLIP_SHORT, 0);
+    answers("to_new, no bytes", plq_to_new(six, 6, NULL, 0), PLQ_BAD_LENGTH, 0);
+    answers("to_old, no slip", plq_to_old(NULL, 0, slip, 6), PLQ_SLIP_SHORT, 0);
+    answers("to_old, no bytes", plq_to_old(seven, 7, NULL, 0), PLQ_BAD_LENGTH, 0);
+    kept("a slip beside a null one", slip, sizeof slip);
     answers("line, no text", plq_line(six, 6, NULL, 0), PLQ_BAD_LENGTH, 0);
     answers("line, no slip", plq_line(NULL, 0, text, 5), PLQ_DONE, 5);
     holds("the line of no slip", text, "10 0\n", 5);
@@ -371,12 +439,14 @@ int main(void) {
     points_and_symbols();
     done_calls();
     both_editions();
+    over_and_back();
     a_roll();
     parts_of_a_word();
     refused_codes();
     refused_by_the_reader();
     limits();
     limits_of_editions();
+    limits_of_turning();
     longest_row();
     null_slices();
     printf("%u facts hold, %u differ\n", held, differ);

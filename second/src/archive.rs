@@ -58,6 +58,18 @@ mod c {
         ) -> u64;
         pub fn plq_line(slip: *const u8, slip_len: usize, text: *mut u8, text_len: usize) -> u64;
         pub fn plq_roll_first(roll: *const u8, roll_len: usize) -> u64;
+        pub fn plq_to_new(
+            slip: *const u8,
+            slip_len: usize,
+            bytes: *mut u8,
+            bytes_len: usize,
+        ) -> u64;
+        pub fn plq_to_old(
+            slip: *const u8,
+            slip_len: usize,
+            bytes: *mut u8,
+            bytes_len: usize,
+        ) -> u64;
     }
 }
 
@@ -160,6 +172,14 @@ pub fn roll_first(roll: &[u8]) -> u64 {
     unsafe { c::plq_roll_first(roll.as_ptr(), roll.len()) }
 }
 
+pub fn to_new(slip: &[u8], bytes: &mut [u8]) -> u64 {
+    unsafe { c::plq_to_new(slip.as_ptr(), slip.len(), bytes.as_mut_ptr(), bytes.len()) }
+}
+
+pub fn to_old(slip: &[u8], bytes: &mut [u8]) -> u64 {
+    unsafe { c::plq_to_old(slip.as_ptr(), slip.len(), bytes.as_mut_ptr(), bytes.len()) }
+}
+
 /// What was seen of a call in the archive.
 pub struct Observed {
     pub answer: u64,
@@ -212,6 +232,8 @@ impl Archive {
             Kind::SlipRead => slip_read(first, buffer, other),
             Kind::Line => line(first, buffer),
             Kind::RollFirst => roll_first(first),
+            Kind::ToNew => to_new(first, buffer),
+            Kind::ToOld => to_old(first, buffer),
         }
     }
 

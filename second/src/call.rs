@@ -10,6 +10,8 @@ pub enum Kind {
     SlipRead = 5,
     Line = 6,
     RollFirst = 7,
+    ToNew = 8,
+    ToOld = 9,
 }
 
 /// How many numbers, input slices and buffers a call takes, in this order.
@@ -21,7 +23,7 @@ pub struct Shape {
 }
 
 impl Kind {
-    pub const ALL: [Kind; 7] = [
+    pub const ALL: [Kind; 9] = [
         Kind::Encode,
         Kind::Decode,
         Kind::Distance,
@@ -29,6 +31,8 @@ impl Kind {
         Kind::SlipRead,
         Kind::Line,
         Kind::RollFirst,
+        Kind::ToNew,
+        Kind::ToOld,
     ];
 
     pub fn from_byte(byte: u8) -> Option<Kind> {
@@ -48,6 +52,15 @@ impl Kind {
         }
     }
 
+    /// The edition of the slips that the call turns into the other one, if it does so.
+    pub fn turns(self) -> Option<usize> {
+        match self {
+            Kind::ToNew => Some(1),
+            Kind::ToOld => Some(2),
+            _ => None,
+        }
+    }
+
     /// The numbers that the call can answer with.
     pub fn answers(self) -> &'static [u8] {
         self.about().2
@@ -63,6 +76,8 @@ impl Kind {
             Kind::SlipRead => ("slip_read", (0, 1, 2), &[0, 1, 3, 4, 6, 7, 10, 11, 12, 13]),
             Kind::Line => ("line", (0, 1, 1), &[0, 7]),
             Kind::RollFirst => ("roll_first", (0, 1, 0), &[0, 1, 3, 4, 10, 11]),
+            Kind::ToNew => ("to_new", (0, 1, 1), &[0, 1, 3, 4, 6, 7, 10, 11, 12, 13]),
+            Kind::ToOld => ("to_old", (0, 1, 1), &[0, 1, 3, 4, 6, 7, 10, 11, 12, 13, 15]),
         }
     }
 }
@@ -119,6 +134,23 @@ impl Call {
 
     pub fn roll_first(roll: Vec<u8>) -> Call {
         Call::with_slip(Kind::RollFirst, roll, vec![])
+    }
+
+    pub fn to_new(slip: Vec<u8>, bytes: Vec<u8>) -> Call {
+        Call::with_slip(Kind::ToNew, slip, vec![bytes])
+    }
+
+    pub fn to_old(slip: Vec<u8>, bytes: Vec<u8>) -> Call {
+        Call::with_slip(Kind::ToOld, slip, vec![bytes])
+    }
+
+    /// The call that turns a slip of this edition.
+    pub fn turn(from: usize, slip: Vec<u8>, bytes: Vec<u8>) -> Call {
+        match from {
+            1 => Call::to_new(slip, bytes),
+            2 => Call::to_old(slip, bytes),
+            _ => panic!("no call turns slips of edition {from}"),
+        }
     }
 
     /// m, r and k of a call that takes a code: its last numbers.

@@ -6,10 +6,10 @@ use crate::call::{fresh, Call, Header, Outcome, RawCode, BEFORE};
 use crate::worked::{code, finds, refuses_slip, Worked, FOUR_BYTES, SIX_BYTES, WIDE};
 
 /// P4's row as a slip of edition 2: 0010 00 001 00000011 00000011 0000000, then points and row as in the six bytes.
-const SEVEN_BYTES: [u8; 7] = [0x20, 0x81, 0x81, 0x80, 0x1B, 0x73, 0xB8];
+pub const SEVEN_BYTES: [u8; 7] = [0x20, 0x81, 0x81, 0x80, 0x1B, 0x73, 0xB8];
 
 /// The smallest slip of edition 2: m 2, r 1, k 1, the point 0 and the symbol 1.
-const FIVE_BYTES: [u8; 5] = [0x20, 0x00, 0x00, 0x00, 0x10];
+pub const FIVE_BYTES: [u8; 5] = [0x20, 0x00, 0x00, 0x00, 0x10];
 
 pub fn all() -> Vec<Worked> {
     let mut cases = worked_row();

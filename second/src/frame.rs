@@ -76,6 +76,6 @@ mod tests {
         for length in 0..whole.len() {
             assert_eq!(read(&whole[..length]), None);
         }
-        assert_eq!(read(&[9]), None);
+        assert_eq!(read(&[99]), None);
     }
 }

@@ -104,17 +104,9 @@ fn loosened(bytes: Bytes, edition: usize) -> Bytes {
 }
 
 fn slip_of(edition: usize, code: &Code, row: Vec<u8>) -> Bytes {
-    let header = Header {
-        edition,
-        m: code.field.bits(),
-        r: code.r,
-        count: code.points.len(),
-        k: code.k,
-    };
-    let points = code.points.clone();
     pack(&Slip {
-        header,
-        points,
+        header: codes::header(edition, code),
+        points: code.points.clone(),
         row,
     })
 }

@@ -1,10 +1,10 @@
 //! Calls whose outcomes were worked by hand: the rows P2 to P12, the limits, two faults at once, the six-byte slip, and rolls.
 //!
 //! No outcome here was computed by a program. P1 speaks of products and stands with the field's tests, and what slips of
-//! edition 2 add stands in `editions`.
+//! edition 2 add stands in `editions`, slips turned over in `turns`.
 
 use crate::call::{fresh, Call, Header, Outcome, RawCode, BEFORE};
-use crate::editions;
+use crate::{editions, turns};
 
 /// A call, the outcome worked by hand, and what it shows.
 pub struct Worked {
@@ -29,6 +29,7 @@ pub fn all() -> Vec<Worked> {
     cases.extend(loose_bits());
     cases.extend(rolls());
     cases.extend(editions::all());
+    cases.extend(turns::all());
     cases
 }
 

@@ -21,6 +21,7 @@ fn number_of(x: Refusal) -> usize
         Refusal::Edition => 11,
         Refusal::SlipLong => 12,
         Refusal::SlipBits => 13,
+        Refusal::RowLong => 15,
     }
 }
 
@@ -41,6 +42,7 @@ fn place_of(x: Refusal) -> usize
         Refusal::Edition => 0,
         Refusal::SlipLong => 0,
         Refusal::SlipBits => 0,
+        Refusal::RowLong => 0,
     }
 }
 

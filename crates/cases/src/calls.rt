@@ -55,3 +55,13 @@ pub fn roll_first(roll: &[u8]) {
         roll::roll_first(roll).len(),
     );
 }
+
+pub fn to_new(slip: &[u8], bytes: &mut [u8]) {
+    show::answer(turn::to_new(slip, bytes));
+    show::buffer(bytes);
+}
+
+pub fn to_old(slip: &[u8], bytes: &mut [u8]) {
+    show::answer(turn::to_old(slip, bytes));
+    show::buffer(bytes);
+}

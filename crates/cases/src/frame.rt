@@ -17,6 +17,10 @@ pub const LINE: u8 = 6;
 
 pub const ROLL_FIRST: u8 = 7;
 
+pub const TO_NEW: u8 = 8;
+
+pub const TO_OLD: u8 = 9;
+
 // No slice of a case is longer.
 pub const ROOM: usize = 600;
 

@@ -12,6 +12,8 @@ use frame::ROLL_FIRST;
 use frame::ROOM;
 use frame::SLIP_READ;
 use frame::SLIP_WRITE;
+use frame::TO_NEW;
+use frame::TO_OLD;
 
 // More cases than any input has.
 const MOST: usize = 100000;
@@ -40,6 +42,8 @@ fn make(
         SLIP_WRITE => return calls::slip_write(edition, m, r, k, first, second, buffer),
         SLIP_READ => return calls::slip_read(first, buffer, other),
         LINE => return calls::line(first, buffer),
+        TO_NEW => return calls::to_new(first, buffer),
+        TO_OLD => return calls::to_old(first, buffer),
         _ => return calls::roll_first(first),
     }
 }
@@ -78,7 +82,7 @@ fn main() {
     let mut left = MOST;
     while 0 < left {
         let call = frame::call();
-        if call < ENCODE || ROLL_FIRST < call {
+        if call < ENCODE || TO_OLD < call {
             return;
         }
         run(call);

@@ -13,3 +13,4 @@ pub mod Write
 pub mod Read
 pub mod Line
 pub mod Roll
+pub mod Turn

@@ -21,6 +21,7 @@ pub enum Refusal {
     Edition,
     SlipLong,
     SlipBits,
+    RowLong,
 }
 
 // What a check finds.

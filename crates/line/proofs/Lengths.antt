@@ -9,7 +9,7 @@ use Rattle.defs.specs.Refusal.{numberOf, number, detail, placeOf}
 use Rattle.defs.specs.Limits.{longest}
 use Rattle.defs.specs.Line.{decimal, spaced, listed, heading, lineOf}
 use Rattle.defs.specs.declared.Refusal.{Refusal}
-use Rattle.defs.specs.declared.Refusal.the-variants.{Field, Depth, Points, Dimension, PointHigh, PointTwice, Length, SymbolHigh, TooFar, SlipShort, Edition, SlipLong, SlipBits}
+use Rattle.defs.specs.declared.Refusal.the-variants.{Field, Depth, Points, Dimension, PointHigh, PointTwice, Length, SymbolHigh, TooFar, SlipShort, Edition, SlipLong, SlipBits, RowLong}
 use Rattle.defs.specs.declared.Answer.{Answer}
 use Rattle.defs.specs.declared.Answer.the-variants.{Done, Refused as No}
 use Rattle.line.specs.Text.{room}
@@ -52,6 +52,7 @@ refusal-small SlipShort = lit< tt
 refusal-small Edition = lit< tt
 refusal-small SlipLong = lit< tt
 refusal-small SlipBits = lit< tt
+refusal-small RowLong = lit< tt
 
 -- two digits, a space, three digits and a newline
 pub refused-short : (x : Refusal) → placeOf x < longest → length (lineOf (No x) [] []) ≤ room

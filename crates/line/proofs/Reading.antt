@@ -1,26 +1,22 @@
 -- What the reader and the decoder leave, and the line of it.
 use Prim.Native.Nat.{ℕ, _≤_}
-use mathlib.Core.Path.{_≡_, refl, ap, sym, _∙_}
+use mathlib.Core.Path.{_≡_, refl, sym, _∙_}
 use mathlib.Core.List.{List, []}
 use native.Mathlib.Omega.{arith}
-use lib.ListN.{length, drop, length-append}
-use Rattle.defs.specs.Refusal.{answer, kept}
+use lib.ListN.{length}
+use Rattle.defs.specs.Refusal.{answer}
 use Rattle.defs.specs.Limits.{longest}
-use Rattle.defs.specs.Slip.{pointsIn, rowIn}
-use Rattle.defs.specs.Write.{front}
 use Rattle.defs.specs.Read.{readVerdict, reading, Read}
 use Rattle.defs.specs.Decode.{Decoded}
 use Rattle.defs.specs.Line.{lineOf, RowLine, decoded, Line, refused, read}
 use Rattle.defs.specs.declared.Refusal.{Refusal}
-use Rattle.defs.specs.declared.Verdict.{Verdict}
-use Rattle.defs.specs.declared.Verdict.the-variants.{Fine, Refused}
+use Rattle.defs.specs.declared.Verdict.the-variants.{Fine}
 use Rattle.defs.specs.declared.Answer.{Answer}
 use Rattle.defs.specs.declared.Answer.the-variants.{Done, Refused as No}
 use Rattle.defs.specs.declared.SlipRead.{SlipRead}
-use Rattle.slip.proofs.Front.{take-front}
-use Rattle.slip.proofs.Taken.{length-points, length-row, read-sound}
+use Rattle.slip.proofs.Answered.{read-no, read-fine, read-numbers, points-in, row-in, points-fit, row-fits as row-lent}
+use Rattle.slip.proofs.Taken.{read-sound}
 use Rattle.theory.proofs.Limits.{count-small}
-use Rattle.theory.proofs.Verdict.{answer-done, answer-refused}
 use Rattle.line.specs.Text.{room, Wrote, Roomy, RowText, Taken, SlipText, Text}
 use Rattle.line.proofs.Lines.{row-short, line-short}
 
@@ -55,30 +51,14 @@ row-text {t = t} {old = old} enough row wrote = record {
 
 -- ---- the reader
 
-length-front : (new old : List ℕ) → length new ≤ length (front new old)
-unfolding front
-length-front new old = omega (arith, length-append new (drop (length new) old))
-
--- the reader's answer is that of its checks
-pub reading-answer : (v : Verdict) (bytes : List ℕ) → reading v bytes .answer ≡ answer v 0
-unfolding reading answer
-reading-answer Fine bytes = refl
-reading-answer (Refused x) bytes = refl
-
 -- two buffers of the longest row, and what the reader left in them
 module _ (bytes points row points′ row′ : List ℕ) (s : SlipRead) (points-room : length points ≡ longest) (row-room : length row ≡ longest)
     (took : Read bytes points row s points′ row′) where
-  abbrev v : Verdict
-  v = readVerdict bytes longest longest
-
-  took-is : readVerdict bytes (length points) (length row) ≡ v
+  took-is : readVerdict bytes (length points) (length row) ≡ readVerdict bytes longest longest
   took-is = rw (points-room, row-room)
 
-  answer-is : answer v 0 ≡ s .answer
-  answer-is = sym (ap (λ (x : SlipRead). x .answer) (took .answers) ∙ reading-answer _ bytes ∙ ap (λ (x : Verdict). answer x 0) took-is)
-
   refused-is : (x : Refusal) → s .answer ≡ No x → Line bytes (lineOf (No x) [] [])
-  refused-is x e = refused x (answer-refused v 0 x (answer-is ∙ e)) refl
+  refused-is x e = refused x (sym took-is ∙ read-no took x e) refl
 
   pub refused-room : (x : Refusal) → s .answer ≡ No x → length (lineOf (No x) [] []) ≤ room
   refused-room x e = line-short bytes _ (refused-is x e)
@@ -90,29 +70,21 @@ module _ (bytes points row points′ row′ : List ℕ) (s : SlipRead) (points-r
   }
 
   module _ (d : ℕ) (done : s .answer ≡ Done d) where
-    fine : v ≡ Fine
-    fine = answer-done v 0 d (answer-is ∙ done)
+    fine : readVerdict bytes longest longest ≡ Fine
+    fine = sym took-is ∙ read-fine took d done
 
     s-is : s ≡ reading Fine bytes
-    s-is = took .answers ∙ ap (λ (v : Verdict). reading v bytes) (took-is ∙ fine)
-
-    points-are : points′ ≡ front (pointsIn bytes) points
-    unfolding kept
-    points-are = took .leaves-points ∙ ap (λ (v : Verdict). kept v (front (pointsIn bytes) points) points) (took-is ∙ fine)
-
-    row-is : row′ ≡ front (rowIn bytes) row
-    unfolding kept
-    row-is = took .leaves-row ∙ ap (λ (v : Verdict). kept v (front (rowIn bytes) row) row) (took-is ∙ fine)
+    s-is = read-numbers took d done
 
     pub taken : (n : ℕ) → n ≡ room → Taken s points′ row′ n
     unfolding reading
     taken n enough =
         let sound = read-sound bytes longest longest fine in
-        rw (s-is, points-are, row-is) record {
+        rw s-is record {
           k-top = omega (arith, sound .numbers .k-top, sound .numbers .row-top);
           count-top = count-small (sound .numbers);
-          points-in = omega (arith, length-points bytes, length-front (pointsIn bytes) points);
-          row-in = omega (arith, length-row bytes, length-front (rowIn bytes) row);
+          points-in = points-fit took d done;
+          row-in = row-lent took d done;
           text = enough;
         }
 
@@ -120,5 +92,5 @@ module _ (bytes points row points′ row′ : List ℕ) (s : SlipRead) (points-r
     unfolding reading
     taken-text buffer end text = record {
       within = text .within;
-      is-line = read fine (rw (s-is, points-are, row-is, take-front _ points _ (length-points bytes), take-front _ row _ (length-row bytes)) at (text .is-line));
+      is-line = read fine (rw (s-is, points-in took d done, row-in took d done) at (text .is-line));
     }

@@ -7,7 +7,7 @@ use native.Mathlib.Omega.{arith}
 use lib.Dec.{eqb, lit<}
 use Rattle.defs.specs.Refusal.{numberOf, placeOf}
 use Rattle.defs.specs.Limits.{longest, firstTwice}
-use Rattle.defs.specs.Slip.{countIn, pointsIn}
+use Rattle.defs.specs.Slip.{isEdition, countIn, pointsIn}
 use Rattle.defs.specs.Read.{firstVerdict, headVerdict, readVerdict}
 use Rattle.defs.specs.declared.Refusal.{Refusal}
 use Rattle.defs.specs.declared.Refusal.the-variants.{Field, Points, Dimension, PointTwice, Length, SlipShort, Edition, SlipLong, SlipBits}
@@ -25,7 +25,7 @@ module _ {P : Refusal → Type 0} (told : (x : Refusal) → readers (numberOf x)
   unfolding headVerdict
   head-every =
       every-then (firstVerdict bytes) _
-      (first-every bytes (told SlipShort refl (lit< tt)) (told Edition refl (lit< tt)) (told Field refl (lit< tt)) (told Points refl (lit< tt)) (told Dimension refl (lit< tt)))
+      (first-every isEdition bytes (told SlipShort refl (lit< tt)) (told Edition refl (lit< tt)) (told Field refl (lit< tt)) (told Points refl (lit< tt)) (told Dimension refl (lit< tt)))
       (λ fine. every-plain _ _ _ (told SlipLong refl (lit< tt)) every-fine)
 
   pub read-every : (count n : ℕ) → Every P (readVerdict bytes count n)

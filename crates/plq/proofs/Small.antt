@@ -4,7 +4,7 @@ use mathlib.Core.Path.{_≡_, refl}
 use mathlib.Core.List.{List}
 use native.Mathlib.Nat.{mul-le-mul}
 use native.Mathlib.Omega.{arith}
-use lib.Dec.{lit<}
+use lib.Dec.{eqb, lit<}
 use lib.ListN.{length}
 use Rattle.defs.specs.Refusal.{placeOf, number, detail, answer}
 use Rattle.defs.specs.Distance.{radius}
@@ -13,8 +13,9 @@ use Rattle.defs.specs.Encode.{encodeVerdict, distanceVerdict, distanceAnswer, E
 use Rattle.defs.specs.Decode.{Decoded, refused, found, none}
 use Rattle.defs.specs.Slip.{headBits, slipSize, widthIn}
 use Rattle.defs.specs.Write.{writeVerdict, Written}
-use Rattle.defs.specs.Read.{reading, Read}
+use Rattle.defs.specs.Read.{readVerdict, reading, Read}
 use Rattle.defs.specs.Line.{lineVerdict, Lined}
+use Rattle.defs.specs.Turn.{turnVerdict, Turned}
 use Rattle.defs.specs.declared.Refusal.{Refusal}
 use Rattle.defs.specs.declared.Verdict.{Verdict}
 use Rattle.defs.specs.declared.Verdict.the-variants.{Fine, Refused}
@@ -26,14 +27,16 @@ use Rattle.theory.proofs.Checks.{decode-known}
 use Rattle.theory.proofs.Distance.{distance-agreement}
 use Rattle.rows.proofs.Outcome.{distance-rows}
 use Rattle.theory.proofs.Width.{width-top}
-use Rattle.theory.proofs.Verdict.{Every, every-fine, every-plain}
+use Rattle.theory.proofs.Verdict.{then-fine, Every, every-fine, every-plain, every-then}
 use Rattle.theory.proofs.Refusals.{encode-every, decode-every, write-every, distance-every}
 use Rattle.slip.proofs.Writer.{writable, written-top}
+use Rattle.slip.proofs.Refusals.{first-every}
 use Rattle.slip.proofs.Reader.{edition-low, Sound, points-few}
 use Rattle.line.proofs.Lengths.{refusal-small}
 use Rattle.line.proofs.Lines.{line-short}
 use Rattle.slip.proofs.Taken.{read-sound}
 use Rattle.line.proofs.Slips.{read-every}
+use Rattle.turn.proofs.Turning.{turned-top}
 use Rattle.plq.specs.Packed.{Narrow}
 
 pub number-small : (a : Answer) → number a < 2 ^ 8
@@ -97,6 +100,20 @@ pub lined-small : {bytes buffer : List ℕ} {a : Answer} {buffer′ : List ℕ} 
 lined-small {bytes} {buffer} {a} x =
     answer-small (lineVerdict (x .text) (length buffer)) _ a (x .answers) (line-small (x .text) (length buffer))
     (λ fine. omega (arith, line-short bytes (x .text) (x .is-line)))
+
+-- a slip turned into the other edition
+turn-every : (from to : ℕ) (slip : List ℕ) (size : ℕ) → Every Small (turnVerdict from to slip size)
+unfolding turnVerdict
+turn-every from to slip size =
+    every-then _ _ (first-every (eqb from) slip (lit< tt) (lit< tt) (lit< tt) (lit< tt) (lit< tt))
+    (λ own. every-then _ _ (read-every (λ y r. small y) slip longest longest)
+    (λ fine. every-plain _ _ _ (lit< tt) (every-plain _ _ _ (lit< tt) every-fine)))
+
+pub turned-small : {from to : ℕ} {slip bytes : List ℕ} {a : Answer} {bytes′ : List ℕ} → Turned from to slip bytes a bytes′ → detail a < 2 ^ 16
+unfolding turnVerdict slipSize headBits
+turned-small {from} {to} {slip} {bytes} {a} x =
+    answer-small (turnVerdict from to slip (length bytes)) _ a (x .answers) (turn-every from to slip (length bytes))
+    (λ fine. omega (arith, turned-top to slip (then-fine (readVerdict slip longest longest) _ (then-fine _ _ fine .1) .0)))
 
 -- ---- the reader
 

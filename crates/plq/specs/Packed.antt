@@ -10,6 +10,7 @@ use Rattle.defs.specs.Write.{Written}
 use Rattle.defs.specs.Read.{Read}
 use Rattle.defs.specs.Line.{Lined}
 use Rattle.defs.specs.Roll.{rollVerdict, firstPart}
+use Rattle.defs.specs.Turn.{Turned}
 use Rattle.defs.specs.declared.Answer.{Answer}
 use Rattle.defs.specs.declared.SlipRead.{SlipRead}
 
@@ -48,6 +49,9 @@ PackedRead bytes points row p points′ row′ = Packs packedRead (λ s. Read by
 
 abbrev pub PackedLined : List ℕ → List ℕ → ℕ → List ℕ → Type 0
 PackedLined bytes buffer p buffer′ = Packs packed (λ a. Lined bytes buffer a buffer′) p
+
+abbrev pub PackedTurned : ℕ → ℕ → List ℕ → List ℕ → ℕ → List ℕ → Type 0
+PackedTurned from to slip bytes p bytes′ = Packs packed (λ a. Turned from to slip bytes a bytes′) p
 
 -- what the reader answers has room in its byte
 pub record Narrow (s : SlipRead) : Type 0 where

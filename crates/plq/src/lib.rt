@@ -3,7 +3,7 @@ ghost use mathlib.Core.Path.{_≡_};
 ghost use Prim.Native.Nat.{_^_, _<_};
 ghost use Rattle.defs.specs.Refusal.{detail};
 ghost use Rattle.defs.specs.Encode.{distanceAnswer};
-ghost use Rattle.plq.specs.Packed.{packed, packedRead, packedRoll, PackedEncoded, PackedDecoded, PackedWritten, PackedRead, PackedLined, Narrow};
+ghost use Rattle.plq.specs.Packed.{packed, packedRead, packedRoll, PackedEncoded, PackedDecoded, PackedWritten, PackedRead, PackedLined, PackedTurned, Narrow};
 use defs::Answer;
 use defs::SlipRead;
 
@@ -118,4 +118,20 @@ pub extern "C" fn plq_roll_first(roll: &[u8]) -> u64
     let number = answers::number_in(roll::roll_answer(roll)) as u64;
     let size = roll::first_size(roll) as u64;
     number + size * 256
+}
+
+// Turns a slip of edition 1 into one of edition 2.
+#[no_mangle]
+pub extern "C" fn plq_to_new(slip: &[u8], bytes: &mut [u8]) -> u64
+    ensures { λ p. ⌜ PackedTurned 1 2 (now (slip .entry)) (now (bytes .entry)) p (now (bytes .exit)) ⌝ }
+{
+    pack(turn::to_new(slip, bytes))
+}
+
+// And back.
+#[no_mangle]
+pub extern "C" fn plq_to_old(slip: &[u8], bytes: &mut [u8]) -> u64
+    ensures { λ p. ⌜ PackedTurned 2 1 (now (slip .entry)) (now (bytes .entry)) p (now (bytes .exit)) ⌝ }
+{
+    pack(turn::to_old(slip, bytes))
 }

@@ -25,10 +25,9 @@ use Rattle.defs.specs.declared.SlipRead.{SlipRead}
 use Rattle.theory.proofs.Verdict.{or-false, answer-refused, Every, every-fine, every-refuse, every-plain, every-then}
 use Rattle.theory.proofs.Refusals.{numbers-every}
 use Rattle.slip.proofs.Reader.{head-first, read-head}
+use Rattle.slip.proofs.Answered.{answered, read-fine, read-numbers}
 use Rattle.slip.proofs.Taken.{read-sound}
 use Rattle.roll.proofs.Parts.{others-first}
-use Rattle.promises.proofs.Slip.{answered}
-use Rattle.promises.proofs.Taken.{fine, s-is}
 
 abbrev pub Neither : ℕ → Type 0
 Neither edition = (edition ≡ 1 → ⊥) × (edition ≡ 2 → ⊥)
@@ -137,5 +136,5 @@ module _ (bytes points row points′ row′ : List ℕ) (s : SlipRead) (x : Read
   pub read-says : (d : ℕ) → s .answer ≡ Done d → (s .edition ≡ editionIn bytes) × ((s .edition ≡ 1) ⊎ (s .edition ≡ 2))
   unfolding reading
   read-says d done =
-      rw (s-is bytes points row points′ row′ s x d done)
-      (refl, either (editionIn bytes) (read-sound bytes _ _ (fine bytes points row points′ row′ s x d done) .known))
+      rw (read-numbers x d done)
+      (refl, either (editionIn bytes) (read-sound bytes _ _ (read-fine x d done) .known))

@@ -4,6 +4,9 @@ pub mod Decode
 pub mod Write
 pub mod Taken
 pub mod RoundTrip
+pub mod Turn
+pub mod TurnRefusals
+pub mod TurnCalls
 pub mod Slip
 pub mod Header
 pub mod Enough

@@ -25,12 +25,12 @@ use Rattle.theory.proofs.Layouts.{layout-top}
 use Rattle.theory.proofs.Limits.{numbers-top, within-known, inside-known, limits-within, limits-inside}
 use Rattle.theory.proofs.Verdict.{then-fine}
 use Rattle.slip.proofs.Reader.{laid-in}
+use Rattle.slip.proofs.Answered.{read-fine, read-numbers}
 use Rattle.slip.proofs.Taken.{read-sound}
 use Rattle.promises.proofs.Decode.{decode-same}
 use Rattle.line.specs.Text.{room}
 use Rattle.promises.proofs.Edition.{refused-by}
 use Rattle.promises.proofs.Enough.{enoughBytes}
-use Rattle.promises.proofs.Taken.{fine, s-is}
 
 -- so long; of the longest slip so many bytes, and one more decides; and a line has no more than its room
 pub figures : (longest ≡ 240) × (layoutOf 1 .top ≡ 128) × (layoutOf 2 .top ≡ 240) × (longestSlip ≡ 484) × (enoughBytes ≡ 485) × (room ≡ 1448)
@@ -56,8 +56,8 @@ pub read-row : (bytes points row points′ row′ : List ℕ) (s : SlipRead) →
     → s .r * s .count ≤ layoutOf (s .edition) .top
 unfolding reading layoutIn
 read-row bytes points row points′ row′ s x d done =
-    let sound = read-sound bytes _ _ (fine bytes points row points′ row′ s x d done) in
-    rw (s-is bytes points row points′ row′ s x d done) (numbers-top (layoutIn bytes .top) _ _ _ _ (laid-in bytes .top-low) (sound .fine))
+    let sound = read-sound bytes _ _ (read-fine x d done) in
+    rw (read-numbers x d done) (numbers-top (layoutIn bytes .top) _ _ _ _ (laid-in bytes .top-low) (sound .fine))
 
 -- ---- 3 for a longer row
 

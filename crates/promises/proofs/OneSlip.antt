@@ -19,13 +19,13 @@ use Rattle.defs.specs.declared.Answer.the-variants.{Done}
 use Rattle.defs.specs.declared.SlipRead.{SlipRead}
 use Rattle.slip.proofs.Bits.{number-same}
 use Rattle.slip.proofs.Canonical.{size-is, slip-read-whole}
+use Rattle.slip.proofs.Answered.{read-fine, read-numbers, points-in, row-in}
 use Rattle.slip.proofs.Taken.{length-points, length-row, row-low, read-sound, within}
 use Rattle.slip.proofs.Writer.{writable-fine}
 use Rattle.promises.proofs.Header.{SameHead, editions-same, layout-same, numbers-same, size-same, fields-head}
 use Rattle.roll.proofs.Parts.{none-found}
 use Rattle.promises.proofs.RoundTrip.{round-trip}
 use Rattle.promises.proofs.Roll.{rolls-same, first-some}
-use Rattle.promises.proofs.Taken.{fine, s-is, points-in, row-in}
 use Rattle.promises.proofs.Walk.{Made, walked, whole-walk, found-whole, left-none}
 
 -- BYTES THAT THE WRITER MAKES ARE READ, with room for the points and the row
@@ -37,7 +37,7 @@ made-read bytes x points row points′ row′ s a b t =
 -- AND BYTES THAT ARE READ ARE MADE BY THE WRITER, from the edition, the code and the row that stand in them
 module _ (bytes : List ℕ) (are : Symbols 8 bytes) (points row points′ row′ : List ℕ) (s : SlipRead) (x : Read bytes points row s points′ row′) (d : ℕ) (done : s .answer ≡ Done d) where
   abbrev taken : readVerdict bytes (length points) (length row) ≡ Fine
-  taken = fine bytes points row points′ row′ s x d done
+  taken = read-fine x d done
 
   pub whole : slipOf (layoutIn bytes) (widthIn bytes) (depthIn bytes) (dimensionIn bytes) (pointsIn bytes) (rowIn bytes) ≡ bytes
   whole = slip-read-whole bytes are _ _ taken
@@ -79,14 +79,14 @@ module _ (a b : List ℕ) (a-are : Symbols 8 a) (b-are : Symbols 8 b) (points ro
       → take (s .r * s .count) row′ ≡ take (t .r * t .count) row₁′ → a ≡ b
   unfolding reading
   equal-slips o p q u v w =
-      let s-at = s-is a points row points′ row′ s x d s-done in
-      let t-at = s-is b points₁ row₁ points₁′ row₁′ t y e t-done in
+      let s-at = read-numbers x d s-done in
+      let t-at = read-numbers y e t-done in
       let edition-same : editionIn a ≡ editionIn b = rw (s-at, t-at) at o in
       let m-same : widthIn a ≡ widthIn b = rw (s-at, t-at) at p in
       let r-same : depthIn a ≡ depthIn b = rw (s-at, t-at) at q in
       let k-same : dimensionIn a ≡ dimensionIn b = rw (s-at, t-at) at u in
-      let points-same : pointsIn a ≡ pointsIn b = sym (points-in a points row points′ row′ s x d s-done) ∙ (rw (s-at, t-at) at v) ∙ points-in b points₁ row₁ points₁′ row₁′ t y e t-done in
-      let row-same : rowIn a ≡ rowIn b = sym (row-in a points row points′ row′ s x d s-done) ∙ (rw (s-at, t-at) at w) ∙ row-in b points₁ row₁ points₁′ row₁′ t y e t-done in
+      let points-same : pointsIn a ≡ pointsIn b = sym (points-in x d s-done) ∙ (rw (s-at, t-at) at v) ∙ points-in y e t-done in
+      let row-same : rowIn a ≡ rowIn b = sym (row-in x d s-done) ∙ (rw (s-at, t-at) at w) ∙ row-in y e t-done in
       sym (whole a a-are points row points′ row′ s x d s-done) ∙ rw (editions-same a b edition-same, m-same, r-same, k-same, points-same, row-same) (whole b b-are points₁ row₁ points₁′ row₁′ t y e t-done)
 
 -- ---- a walk looks at no bit that holds nothing

@@ -6,7 +6,8 @@ use Rattle.defs.specs.Encode.{distanceAnswer}
 use Rattle.promises.proofs.Decode.{decode-same}
 use Rattle.promises.proofs.Slip.{written-same, read-same}
 use Rattle.promises.proofs.Line.{lined-unique}
-use Rattle.plq.specs.Packed.{packed, packedRoll, Packs, PackedEncoded, PackedDecoded, PackedWritten, PackedRead, PackedLined}
+use Rattle.promises.proofs.Turn.{turned-same}
+use Rattle.plq.specs.Packed.{packed, packedRoll, Packs, PackedEncoded, PackedDecoded, PackedWritten, PackedRead, PackedLined, PackedTurned}
 
 -- equal answers are packed alike
 packs-same : {A : Type 0} {pack : A → ℕ} {C C′ : A → Type 0} {p q : ℕ} (x : Packs pack C p) (y : Packs pack C′ q) → x .answer ≡ y .answer → p ≡ q
@@ -45,3 +46,9 @@ packed-line-same {bytes} {buffer} {s = s} {t = t} x y =
 
 pub packed-roll-same : (roll : List ℕ) {p q : ℕ} → p ≡ packedRoll roll → q ≡ packedRoll roll → p ≡ q
 packed-roll-same roll x y = x ∙ sym y
+
+pub packed-turn-same : {from to : ℕ} {slip bytes : List ℕ} {p q : ℕ} {s t : List ℕ}
+    → PackedTurned from to slip bytes p s → PackedTurned from to slip bytes q t → (p ≡ q) × (s ≡ t)
+packed-turn-same x y =
+    let e = turned-same (x .call) (y .call) in
+    (packs-same x y (e .0), e .1)

@@ -11,7 +11,7 @@ use lib.ListN.{length, take, drop, length-append}
 use lib.Seq.{take-all, take-take, take-append-seam, take-append-le, drop-append-seam}
 use borrow.Author.Tests.{le-ltb}
 use Rattle.defs.specs.Refusal.{numberOf, number, refuse, andThen, answer, kept}
-use Rattle.defs.specs.Slip.{layoutOf, headBits, slipSize, longestSlip, editionIn, layoutIn, widthIn, depthIn, countIn, sizeIn}
+use Rattle.defs.specs.Slip.{isEdition, layoutOf, headBits, slipSize, longestSlip, editionIn, layoutIn, widthIn, depthIn, countIn, sizeIn}
 use Rattle.defs.specs.Read.{firstVerdictOf, firstVerdict, headVerdict, readVerdict}
 use Rattle.defs.specs.Line.{lineOf, Line, refused}
 use Rattle.defs.specs.Roll.{rollVerdict, firstPart, restPart}
@@ -206,7 +206,7 @@ rolls n = eqb n 10 || (eqb n 11 || (eqb n 1 || (eqb n 3 || eqb n 4)))
 roll-every : (roll : List ℕ) → Every (λ x. rolls (numberOf x) ≡ true) (rollVerdict roll)
 unfolding rollVerdict
 roll-every [] = every-fine
-roll-every (b ∷ s) = first-every (b ∷ s) refl refl refl refl refl
+roll-every (b ∷ s) = first-every isEdition (b ∷ s) refl refl refl refl refl
 
 -- a roll is refused by these alone
 pub roll-refusals : (roll : List ℕ) (x : Refusal) → answer (rollVerdict roll) 0 ≡ No x → rolls (numberOf x) ≡ true

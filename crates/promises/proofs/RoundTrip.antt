@@ -67,14 +67,14 @@ module _ (edition : ℕ) (known : isEdition edition ≡ true) (m r k : ℕ) (poi
     unfolding editionIn headBits
     edition-back = field-back 4 0 (omega arith) ∙ header-edition L m r k (length points) (laid edition) ∙ edition-own edition known
 
-    layout-back : layoutIn slip ≡ L
+    pub layout-back : layoutIn slip ≡ L
     unfolding layoutIn
     layout-back = ap layoutOf edition-back
 
-    head : Head
+    unfoldable pub head : Head
     head = record { edition = edition; layout = L; m = m; r = r; count = length points; k = k }
 
-    heads-back : Heads slip head
+    pub heads-back : Heads slip head
     unfolding head widthIn depthIn countIn dimensionIn headBits
     heads-back =
         let n = length points in
@@ -94,13 +94,13 @@ module _ (edition : ℕ) (known : isEdition edition ≡ true) (m r k : ℕ) (poi
         rw (← heads-back .m-is, layout-back)
         (tab-same _ (λ j. getD s j 0) (length s) (λ j b. symbol-back (past + j) (omega arith) ∙ g j b) ∙ tab-getD s)
 
-    points-back : pointsIn slip ≡ points
+    pub points-back : pointsIn slip ≡ points
     unfolding pointsIn head
     points-back =
         rw (← heads-back .count-is) (symbols-back 0 points (omega arith) (λ j l. rw (zero-add j) (List·getD-append points w 0 j l)))
 
     module _ (n : length w ≡ r * length points) where
-      row-back : rowIn slip ≡ w
+      pub row-back : rowIn slip ≡ w
       unfolding rowIn head
       row-back =
           rw (← heads-back .r-is, ← heads-back .count-is, ← n) (symbols-back (length points) w (omega arith) (λ j l. getD-append-add points w j 0))
@@ -135,13 +135,12 @@ module _ (edition : ℕ) (known : isEdition edition ≡ true) (m r k : ℕ) (poi
           ∙ behind-header L m r k points w left (m * N)
           ∙ number-beyond left (m * N) (allBits m (points ++ w)) (omega (arith, length-all-bits m (points ++ w), ap (λ (x : ℕ). m * x) (length-append points w))))
 
-      verdict-back : (points₀ row₀ : List ℕ) → length points ≤ length points₀ → length w ≤ length row₀
-          → readVerdict slip (length points₀) (length row₀) ≡ Fine
+      pub verdict-back : (count size : ℕ) → length points ≤ count → length w ≤ size → readVerdict slip count size ≡ Fine
       unfolding head
-      verdict-back points₀ row₀ a b =
+      verdict-back count size a b =
           let searched : Searched slip head 0 (firstTwice points) =
           record { fine = head-back; heads = heads-back; loose-is = omega (arith, spare-back, fill-back); twice-is = rw points-back } in
-          sym (read-fine slip (length points₀) (length row₀) head 0 _ searched (omega arith) points-once a (omega (arith, n)))
+          sym (read-fine slip count size head 0 _ searched (omega arith) points-once a (omega (arith, n)))
 
       -- a slip is read as what it was made of
       pub slip-read-back : (points₀ row₀ : List ℕ) → length points ≤ length points₀ → length w ≤ length row₀
@@ -149,7 +148,7 @@ module _ (edition : ℕ) (known : isEdition edition ≡ true) (m r k : ℕ) (poi
           → (s ≡ record { answer = Done 0; edition = edition; m = m; r = r; count = length points; k = k }) × (points₁ ≡ front points points₀) × (row₁ ≡ front w row₀)
       unfolding head kept
       slip-read-back points₀ row₀ a b s points₁ row₁ t =
-          let v = verdict-back points₀ row₀ a b in (
+          let v = verdict-back (length points₀) (length row₀) a b in (
             rw v at (t .answers) ∙ sym (reading-done slip head heads-back),
             rw (v, points-back) at (t .leaves-points),
             rw (v, row-back) at (t .leaves-row),

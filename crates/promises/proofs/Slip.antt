@@ -2,7 +2,7 @@
 -- edition 1 and 484 in edition 2, and numbers that the reader never answers.
 use Prim.Native.Nat.{ℕ, _+_, _*_, _/_, _≤_}
 use mathlib.Core.Bool.{true, false}
-use mathlib.Core.Path.{_≡_, refl, ap, sym, _∙_}
+use mathlib.Core.Path.{_≡_, refl, sym, _∙_}
 use mathlib.Core.List.{List}
 use native.Mathlib.Nat.{mul-le-mul, mul-le-mul-right}
 use native.Mathlib.Omega.{arith}
@@ -20,10 +20,10 @@ use Rattle.defs.specs.declared.SlipRead.{SlipRead}
 use Rattle.theory.proofs.Verdict.{apart, answer-refused, kept-refused, Every}
 use Rattle.theory.proofs.Limits.{numbers-top}
 use Rattle.theory.proofs.Width.{width-top}
+use Rattle.slip.proofs.Answered.{answered}
 use Rattle.slip.proofs.Layouts.{laid}
 use Rattle.slip.proofs.Writer.{within-limits, within-numbers, writable}
 use Rattle.line.proofs.Slips.{readers, read-every}
-use Rattle.line.proofs.Reading.{reading-answer}
 use Rattle.promises.proofs.RoundTrip.{length-slip}
 
 -- ---- two allowed outcomes are equal
@@ -40,11 +40,6 @@ read-same x y = (cc (x .answers, y .answers), cc (x .leaves-points, y .leaves-po
 
 pub write-refused : {edition m r k : ℕ} {points w bytes : List ℕ} {x : Refusal} {bytes′ : List ℕ} → Written edition m r k points w bytes (No x) bytes′ → bytes′ ≡ bytes
 write-refused t = t .leaves ∙ kept-refused _ _ _ _ _ (sym (t .answers))
-
--- the reader's answer is that of its checks
-pub answered : {bytes points row : List ℕ} {s : SlipRead} {points′ row′ : List ℕ} → Read bytes points row s points′ row′
-    → s .answer ≡ answer (readVerdict bytes (length points) (length row)) 0
-answered {bytes} t = ap (λ (x : SlipRead). x .answer) (t .answers) ∙ reading-answer _ bytes
 
 -- where it is refused the edition and the four numbers are 0
 pub read-refused : {bytes points row : List ℕ} {s : SlipRead} {x : Refusal} {points′ row′ : List ℕ} → Read bytes points row s points′ row′ → s .answer ≡ No x

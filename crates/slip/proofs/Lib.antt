@@ -9,3 +9,4 @@ pub mod Reader
 pub mod Taken
 pub mod Canonical
 pub mod Refusals
+pub mod Answered

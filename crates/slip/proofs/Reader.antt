@@ -1,12 +1,12 @@
 -- The ways out of the slip reader, and what its own functions rely on.
 use Prim.Native.Nat.{ℕ, _+_, _*_, _/_, _<_, _≤_}
-use mathlib.Core.Path.{_≡_, ap, sym, _∙_}
+use mathlib.Core.Path.{_≡_, refl, ap, sym, _∙_}
 use mathlib.Core.Bool.{true, false, _||_}
 use mathlib.Core.List.{List, []}
 use native.Mathlib.Omega.{arith}
-use lib.Dec.{ltb}
+use lib.Dec.{eqb, ltb}
 use lib.ListN.{length, take}
-use borrow.Author.Tests.{lt-ltb, le-ltb, ltb-false, not-false}
+use borrow.Author.Tests.{lt-ltb, le-ltb, ltb-false, not-false, eq-eqb}
 use Rattle.defs.specs.Refusal.{refuse, andThen, kept}
 use Rattle.defs.specs.Limits.{longest, numbersVerdict, firstTwice}
 use Rattle.defs.specs.Slip.{allBits, numberAt, widthOf, isEdition, layoutOf, headBits, slipSize, longestSlip, editionIn, layoutIn, widthIn, depthIn, countIn, dimensionIn, sizeIn, symbolsIn, pointsIn, rowIn, spareIn, fillIn}
@@ -169,6 +169,11 @@ begins bytes e =
       fine = e4 .0;
       size = ltb-false (length bytes) (sizeIn bytes) (e5 .0);
     }
+
+-- a reader that knows its edition alone judges a slip as the one that knows both
+pub one-edition : (from : ℕ) (bytes : List ℕ) → isEdition from ≡ true → editionIn bytes ≡ from → firstVerdictOf (eqb from) bytes ≡ firstVerdict bytes
+unfolding firstVerdictOf
+one-edition from bytes known e = rw (e, eq-eqb from from refl, known)
 
 pub begun : (bytes : List ℕ) → Begins bytes → firstVerdict bytes ≡ Fine
 unfolding firstVerdictOf refuse andThen

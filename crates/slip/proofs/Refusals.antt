@@ -1,6 +1,6 @@
 -- What the header and the size of a slip may be refused by: 10, 11, 1, 3 and 4.
 use Prim.Native.Nat.{ℕ, _<_, _≤_}
-use mathlib.Core.Bool.{_||_, true, false}
+use mathlib.Core.Bool.{Bool, _||_, true, false}
 use mathlib.Core.Path.{_≡_}
 use mathlib.Core.List.{List}
 use native.Mathlib.Omega.{arith}
@@ -8,7 +8,7 @@ use lib.Dec.{eqb, ltb}
 use borrow.Author.Tests.{ne-eqb, le-ltb}
 use Rattle.defs.specs.Limits.{deepest}
 use Rattle.defs.specs.Slip.{allBits, depthIn}
-use Rattle.defs.specs.Read.{firstVerdictOf, firstVerdict}
+use Rattle.defs.specs.Read.{firstVerdictOf}
 use Rattle.defs.specs.declared.Refusal.{Refusal}
 use Rattle.defs.specs.declared.Refusal.the-variants.{Field, Points, Dimension, SlipShort, Edition}
 use Rattle.theory.proofs.Verdict.{apart, Every, every-fine, every-plain, every-then}
@@ -25,9 +25,9 @@ never-deep r l h e =
     let q : false ≡ true = rw (ne-eqb r 0 (omega arith), le-ltb deepest r h) at e in
     apart cc
 
-pub first-every : {P : Refusal → Type 0} (bytes : List ℕ) → P SlipShort → P Edition → P Field → P Points → P Dimension → Every P (firstVerdict bytes)
+pub first-every : {P : Refusal → Type 0} (known : ℕ → Bool) (bytes : List ℕ) → P SlipShort → P Edition → P Field → P Points → P Dimension → Every P (firstVerdictOf known bytes)
 unfolding firstVerdictOf
-first-every bytes short edition field points dimension =
+first-every known bytes short edition field points dimension =
     let d = depth-in bytes in
     every-plain _ _ _ short
     (every-plain _ _ _ edition

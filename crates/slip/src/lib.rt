@@ -5,7 +5,9 @@ mod write;
 
 use defs::LONGEST;
 use defs::Layout;
+pub use layout::layout_of;
 pub use read::check_first;
+pub use read::edition_in;
 pub use read::size_in;
 pub use read::slip_read;
 pub use write::slip_write;

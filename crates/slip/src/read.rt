@@ -4,7 +4,7 @@ ghost use mathlib.Core.List.{[]};
 ghost use Prim.Native.Nat.{_+_, _*_, _<_, _≤_};
 ghost use lib.ListN.{length};
 ghost use Rattle.defs.specs.Limits.{longest, numbersVerdict, firstTwice};
-ghost use Rattle.defs.specs.Slip.{allBits, numberAt, slipSize, sizeIn, symbolsIn, pointsIn, spareIn, fillIn};
+ghost use Rattle.defs.specs.Slip.{allBits, numberAt, slipSize, editionIn, sizeIn, symbolsIn, pointsIn, spareIn, fillIn};
 ghost use Rattle.defs.specs.Write.{front};
 ghost use Rattle.defs.specs.Read.{firstVerdict, headVerdict, readVerdict, reading, Read};
 ghost use Rattle.slip.specs.Laid.{Laid};
@@ -36,6 +36,13 @@ fn number_at(bytes: &[u8], place: usize, width: usize) -> usize
     let first = byte_at(bytes, place / 8);
     let pair = first * 256 + byte_at(bytes, place / 8 + 1);
     (pair >> (16 - width - place % 8)) % (1 << width)
+}
+
+// The edition that stands in the bytes.
+pub fn edition_in(bytes: &[u8]) -> usize
+    ensures { λ e. ⌜ e ≡ editionIn (now (bytes .entry)) ⌝ }
+{
+    number_at(bytes, 0, 4)
 }
 
 // What stands in the header, and 0 where the bytes are too short for it.

@@ -55,5 +55,17 @@ pub mod c {
         ) -> u64;
         pub fn plq_line(slip: *const u8, slip_len: usize, text: *mut u8, text_len: usize) -> u64;
         pub fn plq_roll_first(roll: *const u8, roll_len: usize) -> u64;
+        pub fn plq_to_new(
+            slip: *const u8,
+            slip_len: usize,
+            bytes: *mut u8,
+            bytes_len: usize,
+        ) -> u64;
+        pub fn plq_to_old(
+            slip: *const u8,
+            slip_len: usize,
+            bytes: *mut u8,
+            bytes_len: usize,
+        ) -> u64;
     }
 }

@@ -29,6 +29,7 @@
 //!
 //! A slip stores a code and a row. There are two layouts: edition 1 holds rows of at most 128 symbols, edition 2 of at most 240.
 //! [`slip_write`] is told which one to write; [`slip_read`] says which one it found, and [`slips`] takes both, also mixed.
+//! [`to_new`] and [`to_old`] turn a slip of one edition into the same slip of the other.
 //!
 //! # Calls
 //!
@@ -43,10 +44,12 @@
 mod archive;
 mod refusal;
 mod roll;
+mod turn;
 mod word;
 
 pub use refusal::Refusal;
 pub use roll::{slips, Slips};
+pub use turn::{to_new, to_old};
 
 use archive::c;
 use word::{done, header};

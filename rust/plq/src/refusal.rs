@@ -46,15 +46,18 @@ pub enum Refusal {
     TooFar,
     /// 10: the slip is shorter than 3 bytes, its header or its own size.
     SlipShort,
-    /// 11: the edition of the slip, or the one asked for, is neither 1 nor 2.
+    /// 11: the edition of the slip, or the one asked for, is neither 1 nor 2; for [`to_new`](crate::to_new) it is not 1, for
+    /// [`to_old`](crate::to_old) not 2.
     SlipEdition,
     /// 12: the slip is longer than its own size.
     SlipLong,
     /// 13: a zero or fill bit of the slip is not 0.
     SlipBits,
+    /// 15: n is above 128, so edition 1 has no room for the row.
+    RowLong,
     /// A number that this crate does not know: the archive is newer than the crate.
     Unknown {
-        /// The number of the answer, above 13.
+        /// The number of the answer: 14, or above 15.
         number: u8,
         /// What the answer has for a detail.
         detail: usize,
@@ -80,6 +83,7 @@ impl Refusal {
             11 => Refusal::SlipEdition,
             12 => Refusal::SlipLong,
             13 => Refusal::SlipBits,
+            15 => Refusal::RowLong,
             _ => Refusal::Unknown { number, detail },
         })
     }
@@ -100,6 +104,7 @@ impl Refusal {
             Refusal::SlipEdition => 11,
             Refusal::SlipLong => 12,
             Refusal::SlipBits => 13,
+            Refusal::RowLong => 15,
             Refusal::Unknown { number, .. } => number,
         }
     }
@@ -129,9 +134,10 @@ impl fmt::Display for Refusal {
             Refusal::SymbolHigh { index } => write!(out, "symbol {index} is 2^m or more"),
             Refusal::TooFar => write!(out, "no message is near enough"),
             Refusal::SlipShort => write!(out, "the slip is too short"),
-            Refusal::SlipEdition => write!(out, "the edition is neither 1 nor 2"),
+            Refusal::SlipEdition => write!(out, "the edition is none that the call takes"),
             Refusal::SlipLong => write!(out, "the slip is too long"),
             Refusal::SlipBits => write!(out, "a zero or fill bit of the slip is not 0"),
+            Refusal::RowLong => write!(out, "the row is too long for edition 1"),
             Refusal::Unknown { number, detail } => {
                 write!(out, "the unknown number {number}, detail {detail}")
             }

@@ -1,6 +1,7 @@
 //! The calls that work in long buffers have room on the stack of a small thread, and calls from several threads do not meet.
 
-use plq::{decode, encode, line, slip_read, slip_write, Code, MAX_LINE, MAX_ROW, MAX_SLIP};
+use plq::{decode, encode, line, slip_read, slip_write, to_new, to_old, Code, Refusal};
+use plq::{MAX_LINE, MAX_ROW, MAX_SLIP};
 use std::thread;
 
 const SMALL_STACK: usize = 128 * 1024;
@@ -42,6 +43,20 @@ fn reads_its_slip(code: Code, row: &[u8]) {
     let mut text = [0; MAX_LINE];
     assert!(line(&slip, &mut text).is_ok());
     assert!(text.starts_with(b"0 60 | "));
+    let mut turned = [0; MAX_SLIP];
+    assert_eq!(to_old(&slip, &mut turned), Err(Refusal::RowLong));
+    turns_a_shorter_one(code);
+}
+
+/// The longest row that edition 1 holds, over and back.
+fn turns_a_shorter_one(code: Code) {
+    let points = &code.points[..128];
+    let [mut slip, mut turned, mut back] = [[0; MAX_SLIP]; 3];
+    let size = slip_write(2, Code { points, ..code }, &[9; 128], &mut slip);
+    assert_eq!(size, Ok(260));
+    assert_eq!(to_old(&slip[..260], &mut turned), Ok(259));
+    assert_eq!(to_new(&turned[..259], &mut back), size);
+    assert_eq!(back, slip);
 }
 
 fn on_small_stack(call: impl FnOnce() + Send + 'static) -> thread::JoinHandle<()> {

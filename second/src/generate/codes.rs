@@ -1,6 +1,6 @@
 //! Random codes that pass every check: all fields, all depths, all sizes.
 
-use crate::call::RawCode;
+use crate::call::{Header, RawCode};
 use crate::random::Random;
 use crate::reference::code::{Code, DEEPEST};
 
@@ -14,13 +14,29 @@ pub enum Sizes {
     Even,
     /// Mostly short rows, for calls that decode.
     MostlyShort,
+    /// Each length as often as the other, so that none is left out.
+    EachLength,
 }
 
 /// A code whose rows have at most `longest` symbols.
 pub fn code(random: &mut Random, sizes: Sizes, longest: usize) -> Code {
+    let (m, r, count) = match sizes {
+        Sizes::EachLength => {
+            let n = random.between(1, longest);
+            of_length(random, n)
+        }
+        Sizes::Even | Sizes::MostlyShort => size(random, sizes, longest),
+    };
+    let k = message_length(random, r * count);
+    let points = points(random, m, count);
+    Code::check_within(longest, m, r, k, &points).expect("a code drawn within the limits")
+}
+
+/// A field, a depth and a number of chunks.
+fn size(random: &mut Random, sizes: Sizes, longest: usize) -> (usize, usize, usize) {
     let bound = bound(random, sizes).min(longest);
     let way = random.below(100);
-    let (m, r, count) = if way < 50 {
+    if way < 50 {
         let n = if way < 6 {
             around_limits(random, 1, longest)
         } else {
@@ -29,10 +45,7 @@ pub fn code(random: &mut Random, sizes: Sizes, longest: usize) -> Code {
         of_length(random, n)
     } else {
         by_depth(random, bound)
-    };
-    let k = message_length(random, r * count);
-    let points = points(random, m, count);
-    Code::check_within(longest, m, r, k, &points).expect("a code drawn within the limits")
+    }
 }
 
 pub fn raw(code: &Code) -> RawCode {
@@ -41,6 +54,17 @@ pub fn raw(code: &Code) -> RawCode {
         r: code.r,
         k: code.k,
         points: code.points.clone(),
+    }
+}
+
+/// What a slip of this code says in its header.
+pub fn header(edition: usize, code: &Code) -> Header {
+    Header {
+        edition,
+        m: code.field.bits(),
+        r: code.r,
+        count: code.points.len(),
+        k: code.k,
     }
 }
 

@@ -7,7 +7,7 @@ pub mod header;
 pub mod rolls;
 pub mod slips;
 
-use crate::call::{Call, Header, Kind, RawCode};
+use crate::call::{Call, Kind, RawCode};
 use crate::random::Random;
 use crate::reference::code::{DEEPEST, LONGEST_ROW};
 use crate::reference::{line, slip};
@@ -34,7 +34,7 @@ pub struct Made {
 /// A buffer with room for every line: 240 symbols of three digits and 240 depths with their spaces.
 const ROOMY_TEXT: usize = 1500;
 
-/// How many of 113 cases are of each kind.
+/// How many of 129 cases are of each kind.
 const SHARES: [(Kind, usize); Kind::ALL.len()] = [
     (Kind::Encode, 12),
     (Kind::Decode, 24),
@@ -43,6 +43,8 @@ const SHARES: [(Kind, usize); Kind::ALL.len()] = [
     (Kind::SlipRead, 12),
     (Kind::Line, 36),
     (Kind::RollFirst, 10),
+    (Kind::ToNew, 8),
+    (Kind::ToOld, 8),
 ];
 
 /// Case `index` of the run with this seed.
@@ -68,6 +70,8 @@ fn of_kind(random: &mut Random, kind: Kind) -> Made {
         Kind::SlipRead => slip_read(random),
         Kind::Line => line_call(random),
         Kind::RollFirst => roll_first(random),
+        Kind::ToNew => turn(random, 1),
+        Kind::ToOld => turn(random, 2),
     }
 }
 
@@ -112,7 +116,12 @@ fn fine_encode(random: &mut Random) -> Made {
 }
 
 fn fine_decode(random: &mut Random) -> Made {
-    let code = codes::code(random, Sizes::MostlyShort, LONGEST_ROW);
+    let sizes = if random.percent(2) {
+        Sizes::EachLength
+    } else {
+        Sizes::MostlyShort
+    };
+    let code = codes::code(random, sizes, LONGEST_ROW);
     let received = damage::received(random, &code);
     let message = random.bytes(code.k);
     let depths = random.bytes(code.points.len());
@@ -131,13 +140,7 @@ fn fine_write(random: &mut Random) -> Made {
     let edition = random.pick(&EDITIONS);
     let code = codes::code(random, Sizes::Even, layout(edition).longest_row);
     let row = random.symbols(code.row_length(), code.field.size());
-    let size = header::size(Header {
-        edition,
-        m: code.field.bits(),
-        r: code.r,
-        count: code.points.len(),
-        k: code.k,
-    });
+    let size = header::size(codes::header(edition, &code));
     let room = roomy(random, size);
     Made {
         call: Call::slip_write(edition, codes::raw(&code), row, random.bytes(room)),
@@ -275,5 +278,25 @@ fn roll_first(random: &mut Random) -> Made {
     Made {
         call: Call::roll_first(drawn.bytes),
         origin: Origin::Roll(drawn.slips, drawn.way),
+    }
+}
+
+/// A call that turns slips of this edition. Some are of the other one. Points, symbols and fill take the same bytes in both, so the
+/// room that is needed is a byte more in edition 2 and a byte less in edition 1.
+fn turn(random: &mut Random, from: usize) -> Made {
+    let edition = if random.percent(90) { from } else { 3 - from };
+    let drawn = slips::slip_in(random, edition);
+    let needed = match from {
+        1 => drawn.bytes.len() + 1,
+        _ => drawn.bytes.len().saturating_sub(1),
+    };
+    let room = match random.below(10) {
+        0..8 => roomy(random, needed),
+        8 => needed.saturating_sub(1),
+        _ => random.between(0, needed),
+    };
+    Made {
+        call: Call::turn(from, drawn.bytes, random.bytes(room)),
+        origin: Origin::Slip(drawn.change),
     }
 }

@@ -38,7 +38,17 @@ pub enum Loose {
     Fill(usize),
 }
 
+/// Of either edition.
 pub fn slip(random: &mut Random) -> Drawn {
+    drawn_from(random, written)
+}
+
+/// Of this edition, but for what is changed or was never written.
+pub fn slip_in(random: &mut Random, edition: usize) -> Drawn {
+    drawn_from(random, |random| written_in(random, edition))
+}
+
+fn drawn_from(random: &mut Random, written: impl Fn(&mut Random) -> Slip) -> Drawn {
     if random.percent(8) {
         return Drawn {
             bytes: unwritten(random),
@@ -106,15 +116,13 @@ pub fn flip(bytes: &mut [u8], bit: usize) {
 /// What the writer would make a slip of, of either edition.
 pub fn written(random: &mut Random) -> Slip {
     let edition = random.pick(&EDITIONS);
+    written_in(random, edition)
+}
+
+fn written_in(random: &mut Random, edition: usize) -> Slip {
     let code = codes::code(random, Sizes::MostlyShort, layout(edition).longest_row);
     Slip {
-        header: Header {
-            edition,
-            m: code.field.bits(),
-            r: code.r,
-            count: code.points.len(),
-            k: code.k,
-        },
+        header: codes::header(edition, &code),
         row: damage::received(random, &code).row,
         points: code.points,
     }

@@ -14,6 +14,7 @@ pub mod roll;
 pub mod rows;
 pub mod search;
 pub mod slip;
+pub mod turn;
 
 use crate::call::{Answer, Call, Kind, Outcome};
 use refusal::Refusal;
@@ -62,6 +63,8 @@ fn detail(call: &Call, buffers: &mut [Vec<u8>]) -> Result<usize, Refusal> {
         }
         (Kind::Line, [], [slip], [text]) => line::line(slip, text),
         (Kind::RollFirst, [], [roll], []) => roll::first(roll),
+        (Kind::ToNew, [], [slip], [bytes]) => turn::to_new(slip, bytes),
+        (Kind::ToOld, [], [slip], [bytes]) => turn::to_old(slip, bytes),
         _ => panic!("a {} call has another shape", call.kind.name()),
     }
 }

@@ -22,12 +22,14 @@ pub enum Refusal {
     TooFar,
     /// The slip ends before its header or before its size.
     SlipShort,
-    /// The slip, or the one that is to be written, is of an edition that there is not.
+    /// The slip, or the one that is to be written, is of an edition that there is not, or that is not to be turned.
     Edition,
     /// The slip goes on behind its size.
     SlipLong,
     /// A bit of the slip that holds nothing is not 0.
     SlipBits,
+    /// The row is too long for edition 1.
+    RowLong,
 }
 
 impl Refusal {
@@ -46,6 +48,7 @@ impl Refusal {
             Refusal::Edition => 11,
             Refusal::SlipLong => 12,
             Refusal::SlipBits => 13,
+            Refusal::RowLong => 15,
         }
     }
 

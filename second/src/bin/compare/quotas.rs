@@ -1,6 +1,6 @@
 //! What a run must meet, and how often.
 
-use crate::what::{Dimension, Of, What, Writer};
+use crate::what::{Dimension, Of, Room, What, Writer};
 use second::call::Kind;
 use second::generate::codes::AROUND_LIMITS;
 use second::generate::header::{layout, EDITIONS};
@@ -36,14 +36,17 @@ pub fn quotas() -> Vec<(What, u64)> {
     decoded(&mut quotas);
     rolls(&mut quotas);
     loosened(&mut quotas);
+    turned(&mut quotas);
     quotas
 }
 
-/// The editions that a call can speak of and that there are.
+/// The editions that a call can speak of, that there are, and of which it does not refuse all slips with 11.
 fn editions(kind: Kind) -> &'static [Of] {
     match kind {
         Kind::Encode | Kind::Decode | Kind::Distance => &[Of::None],
         Kind::SlipWrite | Kind::SlipRead | Kind::Line | Kind::RollFirst => &[Of::One, Of::Two],
+        Kind::ToNew => &[Of::One],
+        Kind::ToOld => &[Of::Two],
     }
 }
 
@@ -59,12 +62,15 @@ fn calls(kind: Kind, quotas: &mut Vec<(What, u64)>) {
         let numbers = kind.answers().iter().filter(|number| **number != 11);
         quotas.extend(numbers.map(|number| (What::Answer(kind, *of, *number), EACH)));
     }
-    if editions.contains(&Of::Two) {
+    if editions != [Of::None] {
         let most = if kind == Kind::SlipWrite { 16 } else { 15 };
         let others = (0..=most).filter(|other| !EDITIONS.contains(other));
         quotas.extend(others.map(|other| (What::OtherEdition(kind, other), AT_A_LIMIT)));
     }
-    if matches!(kind, Kind::SlipRead | Kind::Line | Kind::RollFirst) {
+    if let Some(from) = kind.turns() {
+        quotas.push((What::OtherEdition(kind, 3 - from), MANY));
+    }
+    if editions.contains(&Of::Two) && kind != Kind::SlipWrite {
         quotas.push((What::ThreeBytes(kind), EACH));
     }
 }
@@ -72,8 +78,8 @@ fn calls(kind: Kind, quotas: &mut Vec<(What, u64)>) {
 /// The longest row that is taken, and a header of edition 1 says at most 128 points.
 fn limits(kind: Kind, quotas: &mut Vec<(What, u64)>) {
     for of in editions(kind) {
-        let longest = match of {
-            Of::One => layout(1).longest_row,
+        let longest = match (kind, of) {
+            (Kind::ToOld, _) | (_, Of::One) => layout(1).longest_row,
             _ => LONGEST_ROW,
         };
         let is_told = |n: usize| {
@@ -132,4 +138,33 @@ fn loosened(quotas: &mut Vec<(What, u64)>) {
         quotas.push((What::Loosened(Writer::Second, bit), least));
         quotas.push((What::Loosened(Writer::Archive, bit), least));
     }
+}
+
+/// Slips of either writer turned over and back, the room for them from either side of what they need, and 15 whatever the room.
+fn turned(quotas: &mut Vec<(What, u64)>) {
+    for kind in [Kind::ToNew, Kind::ToOld] {
+        let answered = [
+            (0, Room::Exact),
+            (0, Room::Longer),
+            (7, Room::OneShort),
+            (7, Room::Short),
+        ];
+        quotas.extend(answered.map(|(number, room)| (What::Turned(kind, number, room), EACH)));
+        quotas.extend([0, 7].map(|number| (What::WrittenTurned(kind, number), MANY)));
+        quotas.extend(
+            [Writer::Second, Writer::Archive].map(|writer| (What::Back(writer, kind), MANY)),
+        );
+    }
+    for n in AROUND_LIMITS {
+        let taken = n <= layout(1).longest_row;
+        let row = |kind| (What::WrittenRow { kind, n, taken }, AT_A_LIMIT);
+        if taken {
+            quotas.push(row(Kind::ToNew));
+        }
+        if n <= LONGEST_ROW {
+            quotas.push(row(Kind::ToOld));
+        }
+    }
+    quotas.extend(Room::ALL.map(|room| (What::Turned(Kind::ToOld, 15, room), AT_A_LIMIT)));
+    quotas.push((What::WrittenTurned(Kind::ToOld, 15), MANY));
 }

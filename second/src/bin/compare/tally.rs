@@ -1,7 +1,7 @@
 //! How often a run has met what it counts, and whether that is enough.
 
 use crate::quotas::quotas;
-use crate::what::{Dimension, Of, What, Writer};
+use crate::what::{Dimension, Of, Room, What, Writer};
 use second::call::{Call, Header, Kind, Outcome};
 use second::generate::codes::AROUND_LIMITS;
 use second::generate::header::told;
@@ -40,6 +40,11 @@ impl Tally {
             )),
             10 if of == Of::Two && call.inputs[0].len() == 3 => self.meet(What::ThreeBytes(kind)),
             0 | 9 if kind == Kind::Decode => self.count_decode(made, outcome),
+            0 | 7 | 15 => {
+                if let Some(from) = kind.turns() {
+                    self.meet(What::Turned(kind, number, Room::of(from, call)));
+                }
+            }
             _ => (),
         }
         self.count_origin(made, number);
@@ -90,7 +95,7 @@ impl Tally {
         let taken = matches!(number, 0 | 9);
         let refused = match kind {
             Kind::Distance => number == 7,
-            _ => number == 3 && count <= 1 << m,
+            _ => number == 15 || number == 3 && count <= 1 << m,
         };
         if AROUND_LIMITS.contains(&n) && (taken || refused) {
             self.meet(What::Row { kind, of, n, taken });
@@ -120,8 +125,12 @@ impl Tally {
         missing
     }
 
-    /// A complaint where a call met one edition more often than the other, by more than a tenth.
+    /// A complaint where a call met one edition more often than the other, by more than a tenth. A call that turns slips of one
+    /// edition meets that one.
     fn uneven(&self, kind: Kind) -> Option<String> {
+        if kind.turns().is_some() {
+            return None;
+        }
         let met = |of: Of| self.met.get(&What::CallOf(kind, of)).copied().unwrap_or(0);
         let (one, two) = (met(Of::One), met(Of::Two));
         let is_even = one * 10 >= two * 9 && two * 10 >= one * 9;
@@ -141,7 +150,9 @@ fn number_for(call: &Call, outcome: &Outcome) -> u8 {
 fn said(call: &Call) -> Option<Header> {
     match call.kind {
         Kind::Encode | Kind::Decode | Kind::SlipWrite => Some(call.header()),
-        Kind::SlipRead | Kind::Line | Kind::RollFirst => told(&call.inputs[0]),
+        Kind::SlipRead | Kind::Line | Kind::RollFirst | Kind::ToNew | Kind::ToOld => {
+            told(&call.inputs[0])
+        }
         Kind::Distance => {
             let (r, [a, b]) = (
                 call.numbers[0],

@@ -21,7 +21,9 @@ impl Of {
         match call.kind {
             Kind::Encode | Kind::Decode | Kind::Distance => None,
             Kind::SlipWrite => Some(call.numbers[0]),
-            Kind::SlipRead | Kind::Line | Kind::RollFirst => EDITION.read(&call.inputs[0]),
+            Kind::SlipRead | Kind::Line | Kind::RollFirst | Kind::ToNew | Kind::ToOld => {
+                EDITION.read(&call.inputs[0])
+            }
         }
     }
 
@@ -59,6 +61,15 @@ pub enum Writer {
     Archive,
 }
 
+impl Writer {
+    fn name(self) -> &'static str {
+        match self {
+            Writer::Second => "the second program",
+            Writer::Archive => "the archive",
+        }
+    }
+}
+
 /// A k at its limits, and what was answered: the first two were taken, the others refused with 4.
 #[derive(Clone, Copy, Debug, PartialEq, Eq, PartialOrd, Ord)]
 pub enum Dimension {
@@ -66,6 +77,40 @@ pub enum Dimension {
     All,
     OneMore,
     None,
+}
+
+/// The room for a slip that is turned over: what it needs is known from its length.
+#[derive(Clone, Copy, Debug, PartialEq, Eq, PartialOrd, Ord)]
+pub enum Room {
+    Short,
+    OneShort,
+    Exact,
+    Longer,
+}
+
+impl Room {
+    pub const ALL: [Room; 4] = [Room::Short, Room::OneShort, Room::Exact, Room::Longer];
+
+    /// That of a call on a readable slip of this edition.
+    pub fn of(from: usize, call: &Call) -> Room {
+        let [slip, room] = [call.inputs[0].len(), call.buffers[0].len()];
+        let needed = if from == 1 { slip + 1 } else { slip - 1 };
+        match room {
+            room if room + 1 < needed => Room::Short,
+            room if room < needed => Room::OneShort,
+            room if room == needed => Room::Exact,
+            _ => Room::Longer,
+        }
+    }
+
+    fn name(self) -> &'static str {
+        match self {
+            Room::Short => "shorter",
+            Room::OneShort => "one short",
+            Room::Exact => "exact",
+            Room::Longer => "longer",
+        }
+    }
 }
 
 /// What can be met.
@@ -108,6 +153,17 @@ pub enum What {
     Loosened(Writer, Loose),
     /// The archive read a slip of this edition and wrote it again.
     Again(Of),
+    /// A readable slip with this room, and what the call that turns it answers: 0, 7 or 15.
+    Turned(Kind, u8, Room),
+    /// A slip that the archive turned over and back, by who wrote it and the call that came first.
+    Back(Writer, Kind),
+    /// A slip that the archive wrote, and what the call that turns it answers; and a length around a limit.
+    WrittenTurned(Kind, u8),
+    WrittenRow {
+        kind: Kind,
+        n: usize,
+        taken: bool,
+    },
 }
 
 impl What {
@@ -138,9 +194,7 @@ impl What {
                 ("rows decoded".into(), format!("just beyond it, {which}"))
             }
             What::Row { kind, of, n, taken } => {
-                let answer = if taken { "takes" } else { "refuses" };
-                let family = format!("{} {answer} rows of length", of_slips(kind, of));
-                (family, n.to_string())
+                (rows_of(&of_slips(kind, of), taken), n.to_string())
             }
             What::K(kind, of, dimension) => {
                 let k = match dimension {
@@ -166,23 +220,40 @@ impl What {
             What::RollOfSo(slips) => ("rolls, by slips".into(), slips.to_string()),
             What::WrittenRoll => (rolls_of(Writer::Archive).into(), "in all".into()),
             What::MixedRoll(writer) => (rolls_of(writer).into(), "of both editions".into()),
-            What::Loosened(writer, bit) => (loosened(writer).into(), loose(bit)),
+            What::Loosened(writer, bit) => {
+                let family = format!("slips of {} refused for one bit", writer.name());
+                (family, loose(bit))
+            }
             What::Again(of) => ("slips read and written again".into(), of.name().into()),
+            What::Turned(kind, number, room) => {
+                let family = format!("{} answers {number} with room", kind.name());
+                (family, room.name().into())
+            }
+            What::Back(writer, kind) => {
+                let family = format!("slips of {} turned over and back", writer.name());
+                (family, format!("first {}", kind.name()))
+            }
+            What::WrittenTurned(kind, number) => {
+                let family = format!("{} of slips of the archive answers", kind.name());
+                (family, number.to_string())
+            }
+            What::WrittenRow { kind, n, taken } => {
+                let name = format!("{} of slips of the archive", kind.name());
+                (rows_of(&name, taken), n.to_string())
+            }
         }
     }
+}
+
+fn rows_of(name: &str, taken: bool) -> String {
+    let answer = if taken { "takes" } else { "refuses" };
+    format!("{name} {answer} rows of length")
 }
 
 fn rolls_of(writer: Writer) -> &'static str {
     match writer {
         Writer::Second => "rolls",
         Writer::Archive => "rolls that the archive wrote",
-    }
-}
-
-fn loosened(writer: Writer) -> &'static str {
-    match writer {
-        Writer::Second => "slips of the second program refused for one bit",
-        Writer::Archive => "slips of the archive refused for one bit",
     }
 }
 

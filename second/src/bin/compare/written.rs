@@ -1,8 +1,9 @@
 //! What the archive wrote and read, tried further: its slips are read back, refused once a bit is changed that holds nothing,
-//! and joined to rolls; what it read is written again.
+//! joined to rolls and turned over; what it read is written again, and what it turned over is turned back.
 
 use crate::run::{agrees, is_mixed, walk_of_archive};
 use crate::tally::Tally;
+use crate::turned::{back_again, turns};
 use crate::what::{Of, What, Writer};
 use second::archive::Archive;
 use second::call::{fresh, Call, Header, Kind, Outcome, RawCode};
@@ -37,11 +38,13 @@ impl Written {
                 reads_back(archive, call, slip)
                     && self.refuses_loosened(archive, tally, call, slip)
                     && self.takes_apart(tally, call, slip)
+                    && turns(archive, tally, call, slip, self.loosened)
             }
             (Kind::SlipRead, 0) => {
                 tally.meet(What::Again(Of::call(call)));
                 writes_again(archive, call, outcome)
             }
+            (Kind::ToNew | Kind::ToOld, 0) => back_again(archive, tally, call, outcome),
             _ => true,
         }
     }

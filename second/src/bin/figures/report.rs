@@ -13,6 +13,9 @@ use std::fmt::Write;
 
 /// The length of the longest line.
 const LONGEST_LINE: usize = 1448;
+/// The longest row and the longest slip of edition 1.
+const LONGEST_OLD_ROW: usize = 128;
+const LONGEST_OLD_SLIP: usize = 259;
 /// A thread with this stack is enough for every call.
 const ENOUGH: usize = 128 * 1024;
 
@@ -178,9 +181,9 @@ fn stack_table(page: &mut String) {
     assert!(deepest < ENOUGH, "a call takes {deepest} bytes of stack");
     let _ = write!(
         page,
-        "\n## Stack\n\nBytes of stack for m 8, r 1, n 240, k 120, slips of edition 2, found by running each call on a stack filled\n\
-         with a pattern, beyond those of a thread that does nothing: 0 is a call that takes no more than that. A thread with a\n\
-         stack of {} KiB has {ENOUGH}; the call that takes most takes {deepest}.\n\n\
+        "\n## Stack\n\nBytes of stack for m 8, r 1, n 240, k 120, slips of edition 2, and n 128, k 64 for the two calls that turn a slip,\n\
+         found by running each call on a stack filled with a pattern, beyond those of a thread that does nothing: 0 is a call\n\
+         that takes no more than that. A thread with a stack of {} KiB has {ENOUGH}; the call that takes most takes {deepest}.\n\n\
          | call | bytes |\n|---|---|\n",
         ENOUGH / 1024
     );
@@ -204,6 +207,13 @@ fn stack_uses() -> Vec<(&'static str, usize)> {
     let mut found = [0; LONGEST_ROW / 2];
     let mut slip = [0; LONGEST_SLIP];
     let mut text = [0; LONGEST_LINE];
+    let shorter = CodeRef {
+        k: LONGEST_OLD_ROW / 2,
+        points: &code.points[..LONGEST_OLD_ROW],
+        ..code
+    };
+    let (mut old, mut new) = ([0; LONGEST_OLD_SLIP], [0; LONGEST_OLD_SLIP + 1]);
+    archive::slip_write(1, shorter, &row[..LONGEST_OLD_ROW], &mut old);
     vec![
         (
             "encode",
@@ -232,6 +242,14 @@ fn stack_uses() -> Vec<(&'static str, usize)> {
         (
             "roll_first",
             stack_use(&mut || _ = archive::roll_first(&slip)),
+        ),
+        (
+            "to_new",
+            stack_use(&mut || _ = archive::to_new(&old, &mut new)),
+        ),
+        (
+            "to_old",
+            stack_use(&mut || _ = archive::to_old(&new, &mut old)),
         ),
     ]
 }

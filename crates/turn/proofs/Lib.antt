@@ -1,0 +1,2 @@
+-- What the functions that turn a slip rely on.
+pub mod Turning
