@@ -23,8 +23,9 @@
  *
  * ANSWERS. Each call answers one word: in its low 8 bits a number, 0 if the call was done, else the reason why it was
  * refused (enum below), and above it a detail. A refused call changes no buffer. Where several reasons hold, the one that is
- * tried first is given, each being tried on the whole input before the next; each call below says its order.
- * Indices in details count from 0.
+ * tried first is given, each being tried on the whole input before the next (but for the lines of plq_levels_read, which are
+ * tried one after another); each call below says its order.
+ * Indices and numbers of lines in details count from 0.
  *
  * No call allocates memory, keeps a pointer or has state: any number of threads may call at once. A thread with a stack
  * of 128 KiB is enough for every call.
@@ -39,11 +40,12 @@
 extern "C" {
 #endif
 
-/* No row, slip or line is longer than these; a chunk has at most PLQ_MAX_DEPTH symbols. */
+/* No row, slip, line or text of a row's levels is longer than these; a chunk has at most PLQ_MAX_DEPTH symbols. */
 #define PLQ_MAX_ROW 240
 #define PLQ_MAX_DEPTH 8
 #define PLQ_MAX_SLIP 484
 #define PLQ_MAX_LINE 1448
+#define PLQ_MAX_LEVELS 960
 
 /* The number of an answer. */
 enum plq_number {
@@ -62,7 +64,9 @@ enum plq_number {
                              * plq_to_old: it is not 2 */
     PLQ_SLIP_LONG = 12,     /* the slip is longer than its own size */
     PLQ_SLIP_BITS = 13,     /* a zero or fill bit of the slip is not 0 */
-    PLQ_ROW_LONG = 15       /* n is above 128, so edition 1 has no room for the row */
+    PLQ_ROW_LONG = 15,      /* n is above 128, so edition 1 has no room for the row */
+    PLQ_LEVEL_LINE = 17,    /* a line of a text is no level as it must be written; detail: its number */
+    PLQ_LEVEL_HIGH = 18     /* a level of a text is 2^(m r) or more; detail: the number of its line */
 };
 
 /* A cast that is clean in either language; for the macros below alone. */
@@ -192,6 +196,35 @@ uint64_t plq_to_new(const uint8_t *slip, size_t slip_len,
  * With room it is done for every slip of edition 2 that plq_slip_read reads and whose n is at most 128. */
 uint64_t plq_to_old(const uint8_t *slip, size_t slip_len,
                     uint8_t *bytes, size_t bytes_len);
+
+/* Reads a text of levels, as a tone bench exports it, into a row. The level of a chunk is the sum of symbol j times q^(r - 1 - j),
+ * with q = 2^m: its symbols are the digits of a number to the base q, the first one highest. The text has a line for each chunk:
+ * the level in decimal, with no leading zero unless it is 0 itself, and a newline. No code is needed, and a row may have more
+ * chunks than the field has elements.
+ *
+ *   text     any bytes, of any length
+ *   row      of the row's length, a positive multiple of r and at most 240; gets the symbols
+ *
+ * Answers number | line << 8. Tries 1, 2, then 7 on the length of row, then the lines in order, those behind the row's last chunk
+ * too: 17 for one that is not written as above (blank, with a leading zero, with any byte that is no digit, also a carriage return, a
+ * sign or a space, or the last one without its newline), however large its number is, 18 for a well-written level of q^r or more, with any number of digits; and then 7 for a
+ * number of lines other than row_len / r. The detail of 17 and 18 is the number of the line, of which the word holds 56 bits: all of
+ * it for every text below 2^57 bytes. The detail of every other answer is 0. A text that is read is the one that plq_levels_write
+ * makes of the row. */
+uint64_t plq_levels_read(size_t m, size_t r,
+                         const uint8_t *text, size_t text_len,
+                         uint8_t *row, size_t row_len);
+
+/* Writes the levels of a row as a text, one to a line: what plq_levels_read reads back into this row.
+ *
+ *   row      a positive multiple of r symbols, at most 240
+ *   text     at least as long as the text; bytes behind it are kept (PLQ_MAX_LEVELS is always enough)
+ *
+ * Answers number | detail << 8; the detail of a done call is the length of the text. Tries 1, 2, then 7 on the length of row, then 8,
+ * then 7 for a short text buffer. */
+uint64_t plq_levels_write(size_t m, size_t r,
+                          const uint8_t *row, size_t row_len,
+                          uint8_t *text, size_t text_len);
 
 #ifdef __cplusplus
 }

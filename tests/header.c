@@ -393,6 +393,90 @@ static void longest_row(void) {
     kept("behind the longest line", text + PLQ_MAX_LINE, 1);
 }
 
+/* Rows and their levels, with m 2 and r 2: 4 a + b for the chunk a b. With m 8 and r 8 a level may be 2^64 - 1. */
+static void levels(void) {
+    static const char bench[] = "7\n3\n11\n8\n", most[] = "18446744073709551615\n";
+    const size_t size = sizeof bench - 1;
+    fresh();
+    answers("levels_write", plq_levels_write(2, 2, received, 8, text, size + 1), PLQ_DONE, size);
+    holds("the levels", text, bench, size);
+    kept("behind the levels", text + size, 1);
+    answers("levels_read", plq_levels_read(2, 2, text, size, row, 8), PLQ_DONE, 0);
+    holds("the row of levels", row, received, 8);
+    kept("behind the row of levels", row + 8, 1);
+    fresh();
+    answers("no room for the last newline", plq_levels_write(2, 2, received, 8, text, size - 1), PLQ_BAD_LENGTH, 0);
+    kept("no room for the last newline", text, sizeof text);
+    answers("2^64 - 1", plq_levels_write(8, 8, high, 8, text, sizeof text), PLQ_DONE, sizeof most - 1);
+    holds("2^64 - 1", text, most, sizeof most - 1);
+    answers("2^64 - 1 read", plq_levels_read(8, 8, text, sizeof most - 1, row, 8), PLQ_DONE, 0);
+    holds("2^64 - 1 read", row, high, 8);
+}
+
+/* The longest text: 240 levels of three digits, 255 each. Chunks need no points here: with m 2 there may be as many. */
+static void longest_levels(void) {
+    fresh();
+    answers("no room for the longest levels",
+            plq_levels_write(8, 1, high, PLQ_MAX_ROW, text, PLQ_MAX_LEVELS - 1), PLQ_BAD_LENGTH, 0);
+    answers("the longest levels", plq_levels_write(8, 1, high, PLQ_MAX_ROW, text, PLQ_MAX_LEVELS), PLQ_DONE, 960);
+    holds("the last level", text + 956, "255\n", 4);
+    kept("behind the longest levels", text + PLQ_MAX_LEVELS, 1);
+    answers("the longest levels read", plq_levels_read(8, 1, text, PLQ_MAX_LEVELS, row, PLQ_MAX_ROW), PLQ_DONE, 0);
+    holds("the longest levels read", row, high, PLQ_MAX_ROW);
+    answers("240 chunks of m 2", plq_levels_write(2, 1, zeros, PLQ_MAX_ROW, text, 480), PLQ_DONE, 480);
+    answers("241 chunks", plq_levels_write(2, 1, zeros, PLQ_MAX_ROW + 1, text, sizeof text), PLQ_BAD_LENGTH, 0);
+}
+
+/* Texts that are not read into a row of `room` symbols. */
+static const struct {
+    const char *text;
+    size_t m, r, room;
+    enum plq_number number;
+    size_t detail;
+} refused_levels[] = {
+    {"x", 3, 9, 0, PLQ_BAD_FIELD, 0},
+    {"x", 2, 9, 0, PLQ_BAD_DEPTH, 0},
+    {"x", 2, 2, 0, PLQ_BAD_LENGTH, 0},
+    {"x", 2, 2, 3, PLQ_BAD_LENGTH, 0},
+    {"0\n", 2, 2, 4, PLQ_BAD_LENGTH, 0},
+    {"0\n1\n2\n", 2, 2, 4, PLQ_BAD_LENGTH, 0},
+    {"0\n1", 2, 2, 4, PLQ_LEVEL_LINE, 1},
+    {"\n1\n", 2, 2, 4, PLQ_LEVEL_LINE, 0},
+    {"0\n01\n", 2, 2, 4, PLQ_LEVEL_LINE, 1},
+    {"0\n1\r\n", 2, 2, 4, PLQ_LEVEL_LINE, 1},
+    {"0\n+1\n", 2, 2, 4, PLQ_LEVEL_LINE, 1},
+    {"0\n-1\n", 2, 2, 4, PLQ_LEVEL_LINE, 1},
+    {"0\n 1\n", 2, 2, 4, PLQ_LEVEL_LINE, 1},
+    {"0\n1\n\n", 2, 2, 4, PLQ_LEVEL_LINE, 2},
+    {"99999999999999999999x\n1\n", 2, 2, 4, PLQ_LEVEL_LINE, 0},
+    {"16\nx\n", 2, 2, 4, PLQ_LEVEL_HIGH, 0},
+    {"0\n16\n", 2, 2, 4, PLQ_LEVEL_HIGH, 1},
+    {"0\n1\n16\n", 2, 2, 4, PLQ_LEVEL_HIGH, 2},
+    {"18446744073709551616\n", 2, 2, 2, PLQ_LEVEL_HIGH, 0},
+    {"18446744073709551616\n", 8, 8, 8, PLQ_LEVEL_HIGH, 0},
+    {"340282366920938463463374607431768211456\n", 8, 8, 8, PLQ_LEVEL_HIGH, 0},
+};
+
+static void levels_refused(void) {
+    uint8_t bytes[64];
+    const uint8_t symbols[4] = {0, 3, 4, 1};
+    for (size_t i = 0; i < COUNT_OF(refused_levels); i++) {
+        size_t size = strlen(refused_levels[i].text);
+        uint64_t answer;
+        fresh();
+        memcpy(bytes, refused_levels[i].text, size);
+        answer = plq_levels_read(refused_levels[i].m, refused_levels[i].r, bytes, size, row, refused_levels[i].room);
+        answers(refused_levels[i].text, answer, refused_levels[i].number, refused_levels[i].detail);
+        kept(refused_levels[i].text, row, sizeof row);
+    }
+    answers("levels_write, m 3", plq_levels_write(3, 9, symbols, 3, text, 0), PLQ_BAD_FIELD, 0);
+    answers("levels_write, r 9", plq_levels_write(2, 9, symbols, 3, text, 0), PLQ_BAD_DEPTH, 0);
+    answers("levels_write, three symbols", plq_levels_write(2, 2, symbols, 3, text, 0), PLQ_BAD_LENGTH, 0);
+    answers("levels_write, symbol 4", plq_levels_write(2, 2, symbols, 4, text, 0), PLQ_SYMBOL_HIGH, 2);
+    answers("levels_write, no room", plq_levels_write(2, 2, symbols, 2, text, 1), PLQ_BAD_LENGTH, 0);
+    kept("levels that were not written", text, sizeof text);
+}
+
 /* Each slice of each call with length 0 and a null pointer. */
 static void null_slices(void) {
     uint64_t answer;
@@ -425,6 +509,12 @@ static void null_slices(void) {
     answers("to_old, no slip", plq_to_old(NULL, 0, slip, 6), PLQ_SLIP_SHORT, 0);
     answers("to_old, no bytes", plq_to_old(seven, 7, NULL, 0), PLQ_BAD_LENGTH, 0);
     kept("a slip beside a null one", slip, sizeof slip);
+    answers("levels_read, no text", plq_levels_read(2, 2, NULL, 0, row, 2), PLQ_BAD_LENGTH, 0);
+    answers("levels_read, no row", plq_levels_read(2, 2, four, 4, NULL, 0), PLQ_BAD_LENGTH, 0);
+    answers("levels_write, no row", plq_levels_write(2, 2, NULL, 0, text, 9), PLQ_BAD_LENGTH, 0);
+    answers("levels_write, no text", plq_levels_write(2, 2, four, 4, NULL, 0), PLQ_BAD_LENGTH, 0);
+    kept("a row beside a null text", row, sizeof row);
+    kept("a text beside a null row", text, sizeof text);
     answers("line, no text", plq_line(six, 6, NULL, 0), PLQ_BAD_LENGTH, 0);
     answers("line, no slip", plq_line(NULL, 0, text, 5), PLQ_DONE, 5);
     holds("the line of no slip", text, "10 0\n", 5);
@@ -448,6 +538,9 @@ int main(void) {
     limits_of_editions();
     limits_of_turning();
     longest_row();
+    levels();
+    longest_levels();
+    levels_refused();
     null_slices();
     printf("%u facts hold, %u differ\n", held, differ);
     return differ != 0;

@@ -70,6 +70,22 @@ mod c {
             bytes: *mut u8,
             bytes_len: usize,
         ) -> u64;
+        pub fn plq_levels_read(
+            m: usize,
+            r: usize,
+            text: *const u8,
+            text_len: usize,
+            row: *mut u8,
+            row_len: usize,
+        ) -> u64;
+        pub fn plq_levels_write(
+            m: usize,
+            r: usize,
+            row: *const u8,
+            row_len: usize,
+            text: *mut u8,
+            text_len: usize,
+        ) -> u64;
     }
 }
 
@@ -180,6 +196,14 @@ pub fn to_old(slip: &[u8], bytes: &mut [u8]) -> u64 {
     unsafe { c::plq_to_old(slip.as_ptr(), slip.len(), bytes.as_mut_ptr(), bytes.len()) }
 }
 
+pub fn levels_read(m: usize, r: usize, text: &[u8], row: &mut [u8]) -> u64 {
+    unsafe { c::plq_levels_read(m, r, text.as_ptr(), text.len(), row.as_mut_ptr(), row.len()) }
+}
+
+pub fn levels_write(m: usize, r: usize, row: &[u8], text: &mut [u8]) -> u64 {
+    unsafe { c::plq_levels_write(m, r, row.as_ptr(), row.len(), text.as_mut_ptr(), text.len()) }
+}
+
 /// What was seen of a call in the archive.
 pub struct Observed {
     pub answer: u64,
@@ -234,6 +258,8 @@ impl Archive {
             Kind::RollFirst => roll_first(first),
             Kind::ToNew => to_new(first, buffer),
             Kind::ToOld => to_old(first, buffer),
+            Kind::LevelsRead => levels_read(numbers[0], numbers[1], first, buffer),
+            Kind::LevelsWrite => levels_write(numbers[0], numbers[1], first, buffer),
         }
     }
 

@@ -12,6 +12,8 @@ pub enum Kind {
     RollFirst = 7,
     ToNew = 8,
     ToOld = 9,
+    LevelsRead = 10,
+    LevelsWrite = 11,
 }
 
 /// How many numbers, input slices and buffers a call takes, in this order.
@@ -23,7 +25,7 @@ pub struct Shape {
 }
 
 impl Kind {
-    pub const ALL: [Kind; 9] = [
+    pub const ALL: [Kind; 11] = [
         Kind::Encode,
         Kind::Decode,
         Kind::Distance,
@@ -33,6 +35,8 @@ impl Kind {
         Kind::RollFirst,
         Kind::ToNew,
         Kind::ToOld,
+        Kind::LevelsRead,
+        Kind::LevelsWrite,
     ];
 
     pub fn from_byte(byte: u8) -> Option<Kind> {
@@ -78,11 +82,13 @@ impl Kind {
             Kind::RollFirst => ("roll_first", (0, 1, 0), &[0, 1, 3, 4, 10, 11]),
             Kind::ToNew => ("to_new", (0, 1, 1), &[0, 1, 3, 4, 6, 7, 10, 11, 12, 13]),
             Kind::ToOld => ("to_old", (0, 1, 1), &[0, 1, 3, 4, 6, 7, 10, 11, 12, 13, 15]),
+            Kind::LevelsRead => ("levels_read", (2, 1, 1), &[0, 1, 2, 7, 17, 18]),
+            Kind::LevelsWrite => ("levels_write", (2, 1, 1), &[0, 1, 2, 7, 8]),
         }
     }
 }
 
-/// One call: numbers (m, r, k, before them the edition of a slip; or r alone), input slices and buffers with their first contents.
+/// One call: numbers (m, r, k, before them the edition of a slip; or m and r; or r alone), input slices and buffers with their first contents.
 #[derive(Clone, Debug, PartialEq, Eq)]
 pub struct Call {
     pub kind: Kind,
@@ -153,6 +159,14 @@ impl Call {
         }
     }
 
+    pub fn levels_read(m: usize, r: usize, text: Vec<u8>, row: Vec<u8>) -> Call {
+        Call::with_levels(Kind::LevelsRead, m, r, text, row)
+    }
+
+    pub fn levels_write(m: usize, r: usize, row: Vec<u8>, text: Vec<u8>) -> Call {
+        Call::with_levels(Kind::LevelsWrite, m, r, row, text)
+    }
+
     /// m, r and k of a call that takes a code: its last numbers.
     pub fn code_numbers(&self) -> [usize; 3] {
         *self.numbers.last_chunk().expect("a call that takes a code")
@@ -185,6 +199,15 @@ impl Call {
             numbers: vec![code.m, code.r, code.k],
             inputs: vec![code.points, symbols],
             buffers,
+        }
+    }
+
+    fn with_levels(kind: Kind, m: usize, r: usize, input: Vec<u8>, buffer: Vec<u8>) -> Call {
+        Call {
+            kind,
+            numbers: vec![m, r],
+            inputs: vec![input],
+            buffers: vec![buffer],
         }
     }
 
@@ -230,6 +253,7 @@ impl Answer {
         let number = u64::from(self.number);
         let detail = self.detail as u64;
         if kind != Kind::SlipRead {
+            // The number of a line loses what is above its low 56 bits; no other detail has so many.
             return number | detail << 8;
         }
         let Header {

@@ -2,9 +2,10 @@
 //!
 //! - [`reference`](mod@reference) is written from the description of the codes alone, for trust and not for speed.
 //! - [`plain`] is the elimination decoder and the encoder that the figures are measured against.
-//! - [`call`], [`frame`], [`generate`], [`worked`], [`editions`] and [`turns`] make calls with all their inputs, [`table`] a table of slips.
+//! - [`call`], [`frame`], [`generate`], [`worked`], [`editions`], [`turns`] and [`bench`] make calls with all their inputs, [`table`] a table of slips.
 //! - [`guard`] and `archive` run a call in the archive on buffers that end at a guard page.
 
+pub mod bench;
 pub mod call;
 pub mod editions;
 pub mod frame;

@@ -1,10 +1,10 @@
 //! Calls whose outcomes were worked by hand: the rows P2 to P12, the limits, two faults at once, the six-byte slip, and rolls.
 //!
 //! No outcome here was computed by a program. P1 speaks of products and stands with the field's tests, and what slips of
-//! edition 2 add stands in `editions`, slips turned over in `turns`.
+//! edition 2 add stands in `editions`, slips turned over in `turns`, levels in `bench`.
 
 use crate::call::{fresh, Call, Header, Outcome, RawCode, BEFORE};
-use crate::{editions, turns};
+use crate::{bench, editions, turns};
 
 /// A call, the outcome worked by hand, and what it shows.
 pub struct Worked {
@@ -30,6 +30,7 @@ pub fn all() -> Vec<Worked> {
     cases.extend(rolls());
     cases.extend(editions::all());
     cases.extend(turns::all());
+    cases.extend(bench::all());
     cases
 }
 

@@ -22,6 +22,8 @@ fn number_of(x: Refusal) -> usize
         Refusal::SlipLong => 12,
         Refusal::SlipBits => 13,
         Refusal::RowLong => 15,
+        Refusal::LevelLine(_) => 17,
+        Refusal::LevelHigh(_) => 18,
     }
 }
 
@@ -43,6 +45,8 @@ fn place_of(x: Refusal) -> usize
         Refusal::SlipLong => 0,
         Refusal::SlipBits => 0,
         Refusal::RowLong => 0,
+        Refusal::LevelLine(i) => i,
+        Refusal::LevelHigh(i) => i,
     }
 }
 

@@ -65,3 +65,13 @@ pub fn to_old(slip: &[u8], bytes: &mut [u8]) {
     show::answer(turn::to_old(slip, bytes));
     show::buffer(bytes);
 }
+
+pub fn levels_read(m: usize, r: usize, text: &[u8], row: &mut [u8]) {
+    show::answer(levels::levels_read(m, r, text, row));
+    show::buffer(row);
+}
+
+pub fn levels_write(m: usize, r: usize, row: &[u8], text: &mut [u8]) {
+    show::answer(levels::levels_write(m, r, row, text));
+    show::buffer(text);
+}

@@ -21,6 +21,10 @@ pub const TO_NEW: u8 = 8;
 
 pub const TO_OLD: u8 = 9;
 
+pub const LEVELS_READ: u8 = 10;
+
+pub const LEVELS_WRITE: u8 = 11;
+
 // No slice of a case is longer.
 pub const ROOM: usize = 600;
 

@@ -7,6 +7,8 @@ mod show;
 use frame::DECODE;
 use frame::DISTANCE;
 use frame::ENCODE;
+use frame::LEVELS_READ;
+use frame::LEVELS_WRITE;
 use frame::LINE;
 use frame::ROLL_FIRST;
 use frame::ROOM;
@@ -21,6 +23,11 @@ const MOST: usize = 100000;
 // Whether the call takes a code.
 fn coded(call: u8) -> bool {
     call == ENCODE || call == DECODE || call == SLIP_WRITE
+}
+
+// Whether the call takes m and r without a code.
+fn leveled(call: u8) -> bool {
+    call == LEVELS_READ || call == LEVELS_WRITE
 }
 
 // Each arm returns: no fact about the buffers has to be carried past the match.
@@ -44,6 +51,8 @@ fn make(
         LINE => return calls::line(first, buffer),
         TO_NEW => return calls::to_new(first, buffer),
         TO_OLD => return calls::to_old(first, buffer),
+        LEVELS_READ => return calls::levels_read(m, r, first, buffer),
+        LEVELS_WRITE => return calls::levels_write(m, r, first, buffer),
         _ => return calls::roll_first(first),
     }
 }
@@ -56,8 +65,8 @@ fn run(call: u8) {
     let mut other = [0u8; ROOM];
     let two_inputs = coded(call) || call == DISTANCE;
     let edition = frame::number(call == SLIP_WRITE);
-    let m = frame::number(coded(call));
-    let r = frame::number(two_inputs);
+    let m = frame::number(coded(call) || leveled(call));
+    let r = frame::number(two_inputs || leveled(call));
     let k = frame::number(coded(call));
     let a = frame::slice(true, &mut first);
     let b = frame::slice(two_inputs, &mut second);
@@ -82,7 +91,7 @@ fn main() {
     let mut left = MOST;
     while 0 < left {
         let call = frame::call();
-        if call < ENCODE || TO_OLD < call {
+        if call < ENCODE || LEVELS_WRITE < call {
             return;
         }
         run(call);

@@ -33,7 +33,7 @@ pub chunk-at : (r : ℕ) (F : ℕ → ℕ) (j : ℕ) → j < r → getD (chunkOf
 unfolding chunkOf
 chunk-at r F j l = new-front blank F r j l
 
-length-chunk : (r : ℕ) (F : ℕ → ℕ) → r ≤ deepest → length (chunkOf r F) ≡ deepest
+pub length-chunk : (r : ℕ) (F : ℕ → ℕ) → r ≤ deepest → length (chunkOf r F) ≡ deepest
 unfolding chunkOf
 length-chunk r F h = length-append (tab F r) (drop r blank) ∙ omega (arith, length-tab F r, length-drop r blank, length-blank)
 

@@ -25,7 +25,7 @@ pub struct Checked {
 }
 
 // Whether m is 2, 4 or 8.
-fn is_width(m: usize) -> bool
+pub fn is_width(m: usize) -> bool
     ensures { λ b. ⌜ b ≡ isWidth m ⌝ }
 {
     if m == 2 {

@@ -11,6 +11,8 @@ pub mod Decode
 pub mod Slip
 pub mod Write
 pub mod Read
+pub mod Text
 pub mod Line
 pub mod Roll
 pub mod Turn
+pub mod Levels

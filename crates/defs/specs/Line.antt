@@ -1,31 +1,19 @@
 -- The line that slipread prints: number, detail, bar, message, bar, depths; on a refusal number and detail only.
-use Prim.Native.Nat.{ℕ, zero, suc, _+_, _/_, _%_}
+use Prim.Native.Nat.{ℕ}
 use mathlib.Core.Path.{_≡_}
-use mathlib.Core.Bool.{cond}
 use mathlib.Core.List.{List, [], _∷_, _++_}
-use lib.Dec.{ltb}
 use lib.ListN.{length}
-use Rattle.defs.specs.Refusal.{number, detail, refuse, answer, kept}
+use Rattle.defs.specs.Refusal.{number, detail, answer, kept}
 use Rattle.defs.specs.Limits.{longest}
 use Rattle.defs.specs.Decode.{Decoded}
 use Rattle.defs.specs.Slip.{widthIn, depthIn, dimensionIn, pointsIn, rowIn}
 use Rattle.defs.specs.Write.{front}
 use Rattle.defs.specs.Read.{readVerdict}
+use Rattle.defs.specs.Text.{decimal, textVerdict}
 use Rattle.defs.specs.declared.Refusal.{Refusal}
-use Rattle.defs.specs.declared.Refusal.the-variants.{Length}
-use Rattle.defs.specs.declared.Verdict.{Verdict}
 use Rattle.defs.specs.declared.Verdict.the-variants.{Fine, Refused}
 use Rattle.defs.specs.declared.Answer.{Answer}
 use Rattle.defs.specs.declared.Answer.the-variants.{Done, Refused as No}
-
--- a number below 10 ^ d in decimal, without leading zeros
-unfoldable pub digits : ℕ → ℕ → List ℕ
-digits zero x = []
-digits (suc d) x = cond (ltb x 10) ((48 + x) ∷ []) (digits d (x / 10) ++ ((48 + x % 10) ∷ []))
-
--- a machine word has at most 20 digits
-unfoldable pub decimal : ℕ → List ℕ
-decimal x = digits 20 x
 
 -- each number behind a space
 unfoldable pub spaced : List ℕ → List ℕ
@@ -56,12 +44,8 @@ pub data Line (bytes text : List ℕ) : Type 0 where
   read : readVerdict bytes longest longest ≡ Fine
       → RowLine (widthIn bytes) (depthIn bytes) (dimensionIn bytes) (pointsIn bytes) (rowIn bytes) text → Line bytes text
 
--- 7 for a buffer too short
-unfoldable pub lineVerdict : List ℕ → ℕ → Verdict
-lineVerdict text size = refuse (ltb size (length text)) Length Fine
-
 pub record Lined (bytes buffer : List ℕ) (a : Answer) (buffer′ : List ℕ) : Type 0 where
   pub text : List ℕ
   pub is-line : Line bytes text
-  pub answers : a ≡ answer (lineVerdict text (length buffer)) (length text)
-  pub leaves : buffer′ ≡ kept (lineVerdict text (length buffer)) (front text buffer) buffer
+  pub answers : a ≡ answer (textVerdict text (length buffer)) (length text)
+  pub leaves : buffer′ ≡ kept (textVerdict text (length buffer)) (front text buffer) buffer

@@ -3,7 +3,7 @@ use Prim.Native.Nat.{ℕ}
 use mathlib.Core.Bool.{Bool, true, false}
 use mathlib.Core.List.{List}
 use Rattle.defs.specs.declared.Refusal.{Refusal}
-use Rattle.defs.specs.declared.Refusal.the-variants.{Field, Depth, Points, Dimension, PointHigh, PointTwice, Length, SymbolHigh, TooFar, SlipShort, Edition, SlipLong, SlipBits, RowLong}
+use Rattle.defs.specs.declared.Refusal.the-variants.{Field, Depth, Points, Dimension, PointHigh, PointTwice, Length, SymbolHigh, TooFar, SlipShort, Edition, SlipLong, SlipBits, RowLong, LevelLine, LevelHigh}
 use Rattle.defs.specs.declared.Verdict.{Verdict}
 use Rattle.defs.specs.declared.Verdict.the-variants.{Fine, Refused}
 use Rattle.defs.specs.declared.Answer.{Answer}
@@ -24,6 +24,8 @@ numberOf Edition = 11
 numberOf SlipLong = 12
 numberOf SlipBits = 13
 numberOf RowLong = 15
+numberOf (LevelLine i) = 17
+numberOf (LevelHigh i) = 18
 
 abbrev pub placeOf : Refusal → ℕ
 placeOf Field = 0
@@ -40,6 +42,8 @@ placeOf Edition = 0
 placeOf SlipLong = 0
 placeOf SlipBits = 0
 placeOf RowLong = 0
+placeOf (LevelLine i) = i
+placeOf (LevelHigh i) = i
 
 abbrev pub number : Answer → ℕ
 number (Done d) = 0

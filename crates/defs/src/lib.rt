@@ -6,7 +6,7 @@ pub const DEEPEST: usize = 8;
 // The symbols that a row may have, and so the points and the message.
 pub const LONGEST: usize = 240;
 
-// Why a call is refused: a variant for each number, with the place in 5, 6 and 8.
+// Why a call is refused: a variant for each number, with the place in 5, 6 and 8 and the line in 17 and 18.
 pub enum Refusal {
     Field,
     Depth,
@@ -22,6 +22,8 @@ pub enum Refusal {
     SlipLong,
     SlipBits,
     RowLong,
+    LevelLine(usize),
+    LevelHigh(usize),
 }
 
 // What a check finds.

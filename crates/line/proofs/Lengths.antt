@@ -7,13 +7,15 @@ use lib.Dec.{lit<}
 use lib.ListN.{length, getD, length-append}
 use Rattle.defs.specs.Refusal.{numberOf, number, detail, placeOf}
 use Rattle.defs.specs.Limits.{longest}
-use Rattle.defs.specs.Line.{decimal, spaced, listed, heading, lineOf}
+use Rattle.defs.specs.Text.{decimal}
+use Rattle.defs.specs.Line.{spaced, listed, heading, lineOf}
 use Rattle.defs.specs.declared.Refusal.{Refusal}
-use Rattle.defs.specs.declared.Refusal.the-variants.{Field, Depth, Points, Dimension, PointHigh, PointTwice, Length, SymbolHigh, TooFar, SlipShort, Edition, SlipLong, SlipBits, RowLong}
+use Rattle.defs.specs.declared.Refusal.the-variants.{Field, Depth, Points, Dimension, PointHigh, PointTwice, Length, SymbolHigh, TooFar, SlipShort, Edition, SlipLong, SlipBits, RowLong, LevelLine, LevelHigh}
 use Rattle.defs.specs.declared.Answer.{Answer}
 use Rattle.defs.specs.declared.Answer.the-variants.{Done, Refused as No}
 use Rattle.line.specs.Text.{room}
-use Rattle.line.proofs.Decimal.{length-decimal, decimal-top, length-spaced}
+use Rattle.text.proofs.Decimal.{length-decimal, decimal-top}
+use Rattle.line.proofs.Spaced.{length-spaced}
 
 pub length-heading : (a : Answer) → length (heading a) ≡ length (decimal (number a)) + suc (length (decimal (detail a)))
 unfolding heading
@@ -53,6 +55,8 @@ refusal-small Edition = lit< tt
 refusal-small SlipLong = lit< tt
 refusal-small SlipBits = lit< tt
 refusal-small RowLong = lit< tt
+refusal-small (LevelLine i) = lit< tt
+refusal-small (LevelHigh i) = lit< tt
 
 -- two digits, a space, three digits and a newline
 pub refused-short : (x : Refusal) → placeOf x < longest → length (lineOf (No x) [] []) ≤ room

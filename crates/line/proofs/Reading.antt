@@ -17,7 +17,8 @@ use Rattle.defs.specs.declared.SlipRead.{SlipRead}
 use Rattle.slip.proofs.Answered.{read-no, read-fine, read-numbers, points-in, row-in, points-fit, row-fits as row-lent}
 use Rattle.slip.proofs.Taken.{read-sound}
 use Rattle.theory.proofs.Limits.{count-small}
-use Rattle.line.specs.Text.{room, Wrote, Roomy, RowText, Taken, SlipText, Text}
+use Rattle.text.specs.Piece.{Wrote}
+use Rattle.line.specs.Text.{room, Roomy, RowText, Taken, SlipText, Text}
 use Rattle.line.proofs.Lines.{row-short, line-short}
 
 -- ---- the decoder

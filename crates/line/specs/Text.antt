@@ -1,29 +1,15 @@
--- A text that is written into a buffer piece by piece.
+-- The line of a slip, in front of a buffer.
 use Prim.Native.Nat.{ℕ, _+_, _*_, _≤_}
 use mathlib.Core.Path.{_≡_}
-use mathlib.Core.List.{List, _++_}
+use mathlib.Core.List.{List}
 use lib.ListN.{length, take}
-use Rattle.defs.specs.Refusal.{answer, kept}
 use Rattle.defs.specs.Limits.{longest}
-use Rattle.defs.specs.Write.{front}
-use Rattle.defs.specs.Line.{RowLine, Line, lineVerdict}
-use Rattle.defs.specs.declared.Answer.{Answer}
+use Rattle.defs.specs.Line.{RowLine, Line}
 use Rattle.defs.specs.declared.SlipRead.{SlipRead}
 
 -- no line has more bytes
 abbrev pub room : ℕ
 room = 6 * longest + 8
-
--- from the place at on a piece was written to the buffer old, which is new then; the text ends at end
-pub record Wrote (old : List ℕ) (at : ℕ) (piece new : List ℕ) (end : ℕ) : Type 0 where
-  pub size : length new ≡ length old
-  pub ends : end ≡ at + length piece
-  pub text : take end new ≡ take at old ++ piece
-
--- a text went to a caller's buffer, or was refused 7 for want of room
-pub record Handed (text buffer : List ℕ) (a : Answer) (buffer′ : List ℕ) : Type 0 where
-  pub answers : a ≡ answer (lineVerdict text (length buffer)) (length text)
-  pub leaves : buffer′ ≡ kept (lineVerdict text (length buffer)) (front text buffer) buffer
 
 -- there is room for a message of k symbols, the depths of so many chunks, and the line
 pub record Roomy (k count size depths n : ℕ) : Type 0 where

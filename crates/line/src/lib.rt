@@ -1,49 +1,24 @@
 // The line that slipread prints, from the bytes of a slip.
 ghost use mathlib.Core.Path.{_≡_};
-ghost use mathlib.Core.List.{[], _∷_};
-ghost use Prim.Native.Nat.{_+_, _<_, _≤_};
+ghost use mathlib.Core.List.{[]};
+ghost use Prim.Native.Nat.{_+_, _≤_};
 ghost use lib.ListN.{length};
 ghost use Rattle.defs.specs.Limits.{longest};
-ghost use Rattle.defs.specs.Line.{decimal, spaced, listed, heading, lineOf, Lined};
+ghost use Rattle.defs.specs.Line.{spaced, listed, heading, lineOf, Lined};
 ghost use Rattle.defs.specs.declared.Answer.the-variants.{Done, Refused as No};
-ghost use Rattle.line.specs.Text.{room, Wrote, Handed, Roomy, RowText, Taken, SlipText, Text};
+ghost use Rattle.text.specs.Piece.{Wrote};
+ghost use Rattle.line.specs.Text.{room, Roomy, RowText, Taken, SlipText, Text};
 use defs::Answer;
 use defs::LONGEST;
 use defs::Refusal;
 use defs::SlipRead;
+use text::hand_out;
+use text::put;
+use text::put_number;
+use text::put_spaced;
 
 // No line has more bytes than this: a message and depths of the longest row, and what stands around them.
 pub const ROOM: usize = 6 * LONGEST + 8;
-
-// One byte.
-fn put(text: &mut [u8], at: usize, byte: u8) -> usize
-    requires { ⌜ at < length (now text) ⌝ }
-    ensures { λ end. ⌜ Wrote (now (text .entry)) at (byte ∷ []) (now (text .exit)) end ⌝ }
-{
-    text[at] = byte;
-    at + 1
-}
-
-// A number, without leading zeros.
-fn put_number(text: &mut [u8], at: usize, x: usize) -> usize
-    requires { ⌜ at + length (decimal x) ≤ length (now text) ⌝ }
-    ensures { λ end. ⌜ Wrote (now (text .entry)) at (decimal x) (now (text .exit)) end ⌝ }
-{
-    if x < 10 {
-        return put(text, at, 48 + x as u8);
-    }
-    let last = put_number(text, at, x / 10);
-    put(text, last, 48 + (x % 10) as u8)
-}
-
-// A number behind a space.
-fn put_spaced(text: &mut [u8], at: usize, x: usize) -> usize
-    requires { ⌜ at + length (32 ∷ decimal x) ≤ length (now text) ⌝ }
-    ensures { λ end. ⌜ Wrote (now (text .entry)) at (32 ∷ decimal x) (now (text .exit)) end ⌝ }
-{
-    let next = put(text, at, b' ');
-    put_number(text, next, x)
-}
 
 // Each number behind a space.
 fn put_all(text: &mut [u8], at: usize, s: &[u8]) -> usize
@@ -96,17 +71,6 @@ fn put_done(text: &mut [u8], total: usize, message: &[u8], depths: &[u8]) -> usi
     let second = put_list(text, first, message);
     let third = put_list(text, second, depths);
     put(text, third, b'\n')
-}
-
-// Hands out a text, or refuses a buffer that is too short for it.
-fn hand_out(words: &[u8], text: &mut [u8]) -> Answer
-    ensures { λ a. ⌜ Handed (now (words .entry)) (now (text .entry)) a (now (text .exit)) ⌝ }
-{
-    if text.len() < words.len() {
-        return Answer::Refused(Refusal::Length);
-    }
-    code::copy(words, text);
-    Answer::Done(words.len())
 }
 
 // Decodes a row and writes its line. message and depths are room to work in.

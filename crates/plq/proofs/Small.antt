@@ -1,4 +1,4 @@
--- Every answer that a call may give is small enough to be packed.
+-- Every answer that a call may give, but for the numbers of lines, is small enough to be packed.
 use Prim.Native.Nat.{ℕ, _/_, _^_, _<_}
 use mathlib.Core.Path.{_≡_, refl}
 use mathlib.Core.List.{List}
@@ -14,8 +14,10 @@ use Rattle.defs.specs.Decode.{Decoded, refused, found, none}
 use Rattle.defs.specs.Slip.{headBits, slipSize, widthIn}
 use Rattle.defs.specs.Write.{writeVerdict, Written}
 use Rattle.defs.specs.Read.{readVerdict, reading, Read}
-use Rattle.defs.specs.Line.{lineVerdict, Lined}
+use Rattle.defs.specs.Text.{textVerdict}
+use Rattle.defs.specs.Line.{Lined}
 use Rattle.defs.specs.Turn.{turnVerdict, Turned}
+use Rattle.defs.specs.Levels.{levelsWriteVerdict, LevelsWritten}
 use Rattle.defs.specs.declared.Refusal.{Refusal}
 use Rattle.defs.specs.declared.Verdict.{Verdict}
 use Rattle.defs.specs.declared.Verdict.the-variants.{Fine, Refused}
@@ -37,6 +39,8 @@ use Rattle.line.proofs.Lines.{line-short}
 use Rattle.slip.proofs.Taken.{read-sound}
 use Rattle.line.proofs.Slips.{read-every}
 use Rattle.turn.proofs.Turning.{turned-top}
+use Rattle.levels.proofs.Outcome.{text-fits}
+use Rattle.levels.proofs.Refusals.{write-every as levels-every}
 use Rattle.plq.specs.Packed.{Narrow}
 
 pub number-small : (a : Answer) → number a < 2 ^ 8
@@ -45,7 +49,7 @@ number-small (No x) = omega (arith, refusal-small x)
 
 -- ---- the details
 
--- a refusal whose place has room in a byte; every call's checks end in such
+-- a refusal whose place has room in a byte; the checks of every call but levels_read end in such
 abbrev Small : Refusal → Type 0
 Small x = placeOf x < 2 ^ 8
 
@@ -92,13 +96,13 @@ written-small {edition} {m} {r} {k} {points} {w} {bytes} {a} x =
     answer-small (writeVerdict edition m r k points w (length bytes)) _ a (x .answers) (write-every small m r k points edition w (length bytes))
     (λ fine. omega (arith, written-top edition m r k points w (length bytes) (writable edition m r k points w _ fine)))
 
-line-small : (text : List ℕ) (size : ℕ) → Every Small (lineVerdict text size)
-unfolding lineVerdict
+line-small : (text : List ℕ) (size : ℕ) → Every Small (textVerdict text size)
+unfolding textVerdict
 line-small text size = every-plain _ _ _ (lit< tt) every-fine
 
 pub lined-small : {bytes buffer : List ℕ} {a : Answer} {buffer′ : List ℕ} → Lined bytes buffer a buffer′ → detail a < 2 ^ 16
 lined-small {bytes} {buffer} {a} x =
-    answer-small (lineVerdict (x .text) (length buffer)) _ a (x .answers) (line-small (x .text) (length buffer))
+    answer-small (textVerdict (x .text) (length buffer)) _ a (x .answers) (line-small (x .text) (length buffer))
     (λ fine. omega (arith, line-short bytes (x .text) (x .is-line)))
 
 -- a slip turned into the other edition
@@ -114,6 +118,14 @@ unfolding turnVerdict slipSize headBits
 turned-small {from} {to} {slip} {bytes} {a} x =
     answer-small (turnVerdict from to slip (length bytes)) _ a (x .answers) (turn-every from to slip (length bytes))
     (λ fine. omega (arith, turned-top to slip (then-fine (readVerdict slip longest longest) _ (then-fine _ _ fine .1) .0)))
+
+-- the text of a row's levels
+pub levels-small : {m r : ℕ} {w text : List ℕ} {a : Answer} {text′ : List ℕ} → LevelsWritten m r w text a text′ → detail a < 2 ^ 16
+unfolding levelsWriteVerdict
+levels-small {m} {r} {w} {text} {a} x =
+    answer-small (levelsWriteVerdict m r w (length text)) _ a (x .answers)
+    (levels-every {P = Small} (lit< tt) (lit< tt) (lit< tt) (λ i l. omega arith) m r w (length text))
+    (λ fine. let shape = then-fine _ _ fine in omega (arith, text-fits m r w (shape .0) (then-fine _ _ (shape .1) .0)))
 
 -- ---- the reader
 

@@ -1,5 +1,5 @@
 -- An answer as one number, and the calls' contracts over that number.
-use Prim.Native.Nat.{ℕ, _+_, _*_, _^_, _<_}
+use Prim.Native.Nat.{ℕ, _+_, _*_, _%_, _^_, _<_}
 use mathlib.Core.Path.{_≡_}
 use mathlib.Core.List.{List}
 use lib.ListN.{length}
@@ -11,6 +11,7 @@ use Rattle.defs.specs.Read.{Read}
 use Rattle.defs.specs.Line.{Lined}
 use Rattle.defs.specs.Roll.{rollVerdict, firstPart}
 use Rattle.defs.specs.Turn.{Turned}
+use Rattle.defs.specs.Levels.{LevelsRead, LevelsWritten}
 use Rattle.defs.specs.declared.Answer.{Answer}
 use Rattle.defs.specs.declared.SlipRead.{SlipRead}
 
@@ -27,6 +28,10 @@ packedRead s =
 -- the number, and the size of a roll's first slip above it
 abbrev pub packedRoll : List ℕ → ℕ
 packedRoll roll = number (answer (rollVerdict roll) 0) + length (firstPart roll) * 2 ^ 8
+
+-- the number, and the low 56 bits of the number of a text's line above it
+abbrev pub packedLine : Answer → ℕ
+packedLine a = number a + detail a % 2 ^ 56 * 2 ^ 8
 
 -- p packs an answer that the call may give
 pub record Packs {A : Type 0} (pack : A → ℕ) (Call : A → Type 0) (p : ℕ) : Type 0 where
@@ -52,6 +57,12 @@ PackedLined bytes buffer p buffer′ = Packs packed (λ a. Lined bytes buffer a 
 
 abbrev pub PackedTurned : ℕ → ℕ → List ℕ → List ℕ → ℕ → List ℕ → Type 0
 PackedTurned from to slip bytes p bytes′ = Packs packed (λ a. Turned from to slip bytes a bytes′) p
+
+abbrev pub PackedLevelsRead : ℕ → ℕ → List ℕ → List ℕ → ℕ → List ℕ → Type 0
+PackedLevelsRead m r text row p row′ = Packs packedLine (λ a. LevelsRead m r text row a row′) p
+
+abbrev pub PackedLevelsWritten : ℕ → ℕ → List ℕ → List ℕ → ℕ → List ℕ → Type 0
+PackedLevelsWritten m r w text p text′ = Packs packed (λ a. LevelsWritten m r w text a text′) p
 
 -- what the reader answers has room in its byte
 pub record Narrow (s : SlipRead) : Type 0 where

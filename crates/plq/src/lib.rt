@@ -3,7 +3,7 @@ ghost use mathlib.Core.Path.{_≡_};
 ghost use Prim.Native.Nat.{_^_, _<_};
 ghost use Rattle.defs.specs.Refusal.{detail};
 ghost use Rattle.defs.specs.Encode.{distanceAnswer};
-ghost use Rattle.plq.specs.Packed.{packed, packedRead, packedRoll, PackedEncoded, PackedDecoded, PackedWritten, PackedRead, PackedLined, PackedTurned, Narrow};
+ghost use Rattle.plq.specs.Packed.{packed, packedRead, packedRoll, packedLine, PackedEncoded, PackedDecoded, PackedWritten, PackedRead, PackedLined, PackedTurned, PackedLevelsRead, PackedLevelsWritten, Narrow};
 use defs::Answer;
 use defs::SlipRead;
 
@@ -37,6 +37,15 @@ fn pack_read(s: SlipRead) -> u64
         + k * 4294967296
         + detail * 1099511627776
         + edition * 281474976710656
+}
+
+// An answer with the number of a line, of which 56 bits have room.
+fn pack_line(a: Answer) -> u64
+    ensures { λ p. ⌜ p ≡ packedLine a ⌝ }
+{
+    let number = answers::number_in(a) as u64;
+    let line = answers::detail_in(a) as u64;
+    number + line % 72057594037927936 * 256
 }
 
 // Writes the row of a message.
@@ -134,4 +143,20 @@ pub extern "C" fn plq_to_old(slip: &[u8], bytes: &mut [u8]) -> u64
     ensures { λ p. ⌜ PackedTurned 2 1 (now (slip .entry)) (now (bytes .entry)) p (now (bytes .exit)) ⌝ }
 {
     pack(turn::to_old(slip, bytes))
+}
+
+// Reads a text of levels into a row.
+#[no_mangle]
+pub extern "C" fn plq_levels_read(m: usize, r: usize, text: &[u8], row: &mut [u8]) -> u64
+    ensures { λ p. ⌜ PackedLevelsRead m r (now (text .entry)) (now (row .entry)) p (now (row .exit)) ⌝ }
+{
+    pack_line(levels::levels_read(m, r, text, row))
+}
+
+// Writes the levels of a row as a text.
+#[no_mangle]
+pub extern "C" fn plq_levels_write(m: usize, r: usize, row: &[u8], text: &mut [u8]) -> u64
+    ensures { λ p. ⌜ PackedLevelsWritten m r (now (row .entry)) (now (text .entry)) p (now (text .exit)) ⌝ }
+{
+    pack(levels::levels_write(m, r, row, text))
 }

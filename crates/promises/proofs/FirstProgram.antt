@@ -12,7 +12,8 @@ use Rattle.defs.specs.Limits.{numbersVerdict}
 use Rattle.defs.specs.Slip.{allBits, numberAt, layoutOf, headBits, slipSize, editionIn, layoutIn, widthIn, depthIn, countIn, dimensionIn, sizeIn}
 use Rattle.defs.specs.Write.{Written}
 use Rattle.defs.specs.Read.{firstVerdictOf, firstVerdict}
-use Rattle.defs.specs.Line.{digits, decimal, heading, lineOf}
+use Rattle.defs.specs.Text.{digits, decimal}
+use Rattle.defs.specs.Line.{heading, lineOf}
 use Rattle.defs.specs.declared.Refusal.{Refusal}
 use Rattle.defs.specs.declared.Refusal.the-variants.{SlipShort, Edition}
 use Rattle.defs.specs.declared.Verdict.{Verdict}

@@ -12,6 +12,10 @@ pub mod Header
 pub mod Enough
 pub mod WorkedSlip
 pub mod Line
+pub mod LevelTexts
+pub mod LevelRows
+pub mod Levels
+pub mod LevelRefusals
 pub mod Packed
 pub mod Unpacked
 pub mod Roll

@@ -12,7 +12,8 @@ use Rattle.defs.specs.Refusal.{refuse, answer}
 use Rattle.defs.specs.Limits.{longest}
 use Rattle.defs.specs.Slip.{longestSlip}
 use Rattle.defs.specs.Read.{readVerdict}
-use Rattle.defs.specs.Line.{RowLine, decoded, Line, refused, read, lineVerdict, Lined}
+use Rattle.defs.specs.Text.{textVerdict}
+use Rattle.defs.specs.Line.{RowLine, decoded, Line, refused, read, Lined}
 use Rattle.defs.specs.declared.Refusal.{Refusal}
 use Rattle.defs.specs.declared.Verdict.the-variants.{Fine}
 use Rattle.defs.specs.declared.Answer.{Answer}
@@ -77,6 +78,6 @@ refused-keeps bytes buffer x b u = u .leaves ∙ kept-refused _ _ x _ buffer (sy
 
 -- with this much room the call is done
 pub done : (bytes buffer : List ℕ) (a : Answer) (b : List ℕ) → room ≤ length buffer → (u : Lined bytes buffer a b) → a ≡ Done (length (u .text))
-unfolding lineVerdict refuse answer
+unfolding textVerdict refuse answer
 done bytes buffer a b h u =
     u .answers ∙ rw (le-ltb (length buffer) (length (u .text)) (omega (arith, line-short bytes (u .text) (u .is-line))))

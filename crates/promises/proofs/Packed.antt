@@ -7,7 +7,20 @@ use Rattle.promises.proofs.Decode.{decode-same}
 use Rattle.promises.proofs.Slip.{written-same, read-same}
 use Rattle.promises.proofs.Line.{lined-unique}
 use Rattle.promises.proofs.Turn.{turned-same}
-use Rattle.plq.specs.Packed.{packed, packedRoll, Packs, PackedEncoded, PackedDecoded, PackedWritten, PackedRead, PackedLined, PackedTurned}
+use Rattle.promises.proofs.Levels.{levels-read-same, levels-write-same}
+use Rattle.plq.specs.Packed.{
+  packed,
+  packedRoll,
+  Packs,
+  PackedEncoded,
+  PackedDecoded,
+  PackedWritten,
+  PackedRead,
+  PackedLined,
+  PackedTurned,
+  PackedLevelsRead,
+  PackedLevelsWritten,
+}
 
 -- equal answers are packed alike
 packs-same : {A : Type 0} {pack : A → ℕ} {C C′ : A → Type 0} {p q : ℕ} (x : Packs pack C p) (y : Packs pack C′ q) → x .answer ≡ y .answer → p ≡ q
@@ -51,4 +64,16 @@ pub packed-turn-same : {from to : ℕ} {slip bytes : List ℕ} {p q : ℕ} {s t 
     → PackedTurned from to slip bytes p s → PackedTurned from to slip bytes q t → (p ≡ q) × (s ≡ t)
 packed-turn-same x y =
     let e = turned-same (x .call) (y .call) in
+    (packs-same x y (e .0), e .1)
+
+pub packed-levels-read-same : {m r : ℕ} {text row : List ℕ} {p q : ℕ} {s t : List ℕ}
+    → PackedLevelsRead m r text row p s → PackedLevelsRead m r text row q t → (p ≡ q) × (s ≡ t)
+packed-levels-read-same {m} {r} {text} {row} {s = s} {t = t} x y =
+    let e = levels-read-same m r text row (x .answer) (y .answer) s t (x .call) (y .call) in
+    (packs-same x y (e .0), e .1)
+
+pub packed-levels-write-same : {m r : ℕ} {w text : List ℕ} {p q : ℕ} {s t : List ℕ}
+    → PackedLevelsWritten m r w text p s → PackedLevelsWritten m r w text q t → (p ≡ q) × (s ≡ t)
+packed-levels-write-same {m} {r} {w} {text} {s = s} {t = t} x y =
+    let e = levels-write-same m r w text (x .answer) (y .answer) s t (x .call) (y .call) in
     (packs-same x y (e .0), e .1)

@@ -200,7 +200,7 @@ pub fn agree(a: [u8; DEEPEST], b: [u8; DEEPEST], r: usize) -> usize
 }
 
 // Writes a chunk into a row.
-fn store(row: &mut [u8], at: usize, r: usize, chunk: [u8; DEEPEST])
+pub fn store(row: &mut [u8], at: usize, r: usize, chunk: [u8; DEEPEST])
     requires { ⌜ (r ≤ deepest) × (at + r ≤ length (now row)) ⌝ }
     ensures { λ _. ⌜ now (row .exit) ≡ filled (now (row .entry)) at (λ j. getD chunk j 0) r ⌝ }
 {
@@ -269,7 +269,7 @@ pub fn row_distance(r: usize, count: usize, a: &[u8], b: &[u8]) -> usize
 }
 
 // 2 and 7, on the lengths of two rows.
-fn check_lengths(r: usize, n: usize, other: usize) -> Verdict
+pub fn check_lengths(r: usize, n: usize, other: usize) -> Verdict
     ensures { λ v. ⌜ v ≡ distanceVerdict r n other ⌝ }
 {
     if r == 0 {

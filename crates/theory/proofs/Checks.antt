@@ -30,7 +30,7 @@ length-fine : (a b : ℕ) (x : Refusal) (v : Verdict) → a ≡ b → v ≡ Fine
 unfolding refuse
 length-fine a b x v e f = rw (eq-eqb a b e) f
 
-symbols-known : (m : ℕ) (s : List ℕ) → symbolsVerdict m s ≡ Fine → Symbols m s
+pub symbols-known : (m : ℕ) (s : List ℕ) → symbolsVerdict m s ≡ Fine → Symbols m s
 unfolding symbolsVerdict
 symbols-known m s e = none-high m s (ltb-false _ _ (refuse-fine _ _ _ e .0))
 

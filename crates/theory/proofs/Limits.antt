@@ -89,7 +89,7 @@ inside-known m r k points e = within-known longest m r k points (omega arith) e
 
 -- ---- and back
 
-width-is : (m : ℕ) → Width m → isWidth m ≡ true
+pub width-is : (m : ℕ) → Width m → isWidth m ≡ true
 width-is m (inl e) = rw e
 width-is m (inr (inl e)) = rw e
 width-is m (inr (inr e)) = rw e

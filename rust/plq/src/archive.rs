@@ -67,5 +67,21 @@ pub mod c {
             bytes: *mut u8,
             bytes_len: usize,
         ) -> u64;
+        pub fn plq_levels_read(
+            m: usize,
+            r: usize,
+            text: *const u8,
+            text_len: usize,
+            row: *mut u8,
+            row_len: usize,
+        ) -> u64;
+        pub fn plq_levels_write(
+            m: usize,
+            r: usize,
+            row: *const u8,
+            row_len: usize,
+            text: *mut u8,
+            text_len: usize,
+        ) -> u64;
     }
 }

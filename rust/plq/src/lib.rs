@@ -31,6 +31,11 @@
 //! [`slip_write`] is told which one to write; [`slip_read`] says which one it found, and [`slips`] takes both, also mixed.
 //! [`to_new`] and [`to_old`] turn a slip of one edition into the same slip of the other.
 //!
+//! # Levels
+//!
+//! A tone bench exports a row as a text, with one whole number to a line: the level of a chunk, its symbols read as digits to the
+//! base 2^m. [`levels_read`] reads such a text into a row, and [`levels_write`] writes it.
+//!
 //! # Calls
 //!
 //! The functions here are the proved functions of the archive `libplq.a`, on slices. Nothing need be checked before a
@@ -42,11 +47,13 @@
 #![deny(missing_docs)]
 
 mod archive;
+mod levels;
 mod refusal;
 mod roll;
 mod turn;
 mod word;
 
+pub use levels::{levels_read, levels_write};
 pub use refusal::Refusal;
 pub use roll::{slips, Slips};
 pub use turn::{to_new, to_old};
@@ -60,6 +67,8 @@ pub const MAX_ROW: usize = 240;
 pub const MAX_SLIP: usize = 484;
 /// The most bytes that a line has, with its newline.
 pub const MAX_LINE: usize = 1448;
+/// The most bytes that the text of a row's levels has: three digits and a newline for each of 240 symbols.
+pub const MAX_LEVELS: usize = 960;
 
 /// A code, as every call takes it; the call checks it.
 ///

@@ -3,7 +3,7 @@
 use std::error::Error;
 use std::fmt;
 
-/// Why a call was refused. Each reason has a [number](Refusal::number); indices count from 0.
+/// Why a call was refused. Each reason has a [number](Refusal::number); indices and lines count from 0.
 ///
 /// ```
 /// use plq::{encode, Code, Refusal};
@@ -55,9 +55,19 @@ pub enum Refusal {
     SlipBits,
     /// 15: n is above 128, so edition 1 has no room for the row.
     RowLong,
+    /// 17: a line of a text is no level as it must be written.
+    LevelLine {
+        /// The first line that is wrong; all those before it are good.
+        line: usize,
+    },
+    /// 18: a level of a text is q^r or more.
+    LevelHigh {
+        /// The first line that is wrong; all those before it are good.
+        line: usize,
+    },
     /// A number that this crate does not know: the archive is newer than the crate.
     Unknown {
-        /// The number of the answer: 14, or above 15.
+        /// The number of the answer: 14, 16, or above 18.
         number: u8,
         /// What the answer has for a detail.
         detail: usize,
@@ -67,7 +77,7 @@ pub enum Refusal {
 impl Refusal {
     /// The refusal with this number and detail, or none for number 0.
     pub(crate) fn new(number: u8, detail: usize) -> Option<Refusal> {
-        let index = detail;
+        let [index, line] = [detail; 2];
         Some(match number {
             0 => return None,
             1 => Refusal::Field,
@@ -84,6 +94,8 @@ impl Refusal {
             12 => Refusal::SlipLong,
             13 => Refusal::SlipBits,
             15 => Refusal::RowLong,
+            17 => Refusal::LevelLine { line },
+            18 => Refusal::LevelHigh { line },
             _ => Refusal::Unknown { number, detail },
         })
     }
@@ -105,16 +117,19 @@ impl Refusal {
             Refusal::SlipLong => 12,
             Refusal::SlipBits => 13,
             Refusal::RowLong => 15,
+            Refusal::LevelLine { .. } => 17,
+            Refusal::LevelHigh { .. } => 18,
             Refusal::Unknown { number, .. } => number,
         }
     }
 
-    /// The index of numbers 5, 6 and 8, what came with an unknown number, and 0 for all others.
+    /// The index of numbers 5, 6 and 8, the line of 17 and 18, what came with an unknown number, and 0 for all others.
     pub fn detail(self) -> usize {
         match self {
             Refusal::PointHigh { index }
             | Refusal::PointTwice { index }
             | Refusal::SymbolHigh { index } => index,
+            Refusal::LevelLine { line } | Refusal::LevelHigh { line } => line,
             Refusal::Unknown { detail, .. } => detail,
             _ => 0,
         }
@@ -138,6 +153,8 @@ impl fmt::Display for Refusal {
             Refusal::SlipLong => write!(out, "the slip is too long"),
             Refusal::SlipBits => write!(out, "a zero or fill bit of the slip is not 0"),
             Refusal::RowLong => write!(out, "the row is too long for edition 1"),
+            Refusal::LevelLine { line } => write!(out, "line {line} is no level"),
+            Refusal::LevelHigh { line } => write!(out, "the level in line {line} is too high"),
             Refusal::Unknown { number, detail } => {
                 write!(out, "the unknown number {number}, detail {detail}")
             }

@@ -32,7 +32,7 @@ mod tests {
 
     /// The numbers of the refusals that this crate knows.
     fn is_known(number: u8) -> bool {
-        matches!(number, 1..=13 | 15)
+        matches!(number, 1..=13 | 15 | 17 | 18)
     }
 
     #[test]

@@ -1,7 +1,7 @@
 //! The calls that work in long buffers have room on the stack of a small thread, and calls from several threads do not meet.
 
-use plq::{decode, encode, line, slip_read, slip_write, to_new, to_old, Code, Refusal};
-use plq::{MAX_LINE, MAX_ROW, MAX_SLIP};
+use plq::{decode, encode, levels_read, levels_write, line, slip_read, slip_write, to_new, to_old};
+use plq::{Code, Refusal, MAX_LEVELS, MAX_LINE, MAX_ROW, MAX_SLIP};
 use std::thread;
 
 const SMALL_STACK: usize = 128 * 1024;
@@ -32,6 +32,7 @@ fn decodes_the_longest_row(symbol: u8) {
     let damaged = |i: usize| u8::from(i < RADIUS);
     assert_eq!(depths, std::array::from_fn(damaged));
     reads_its_slip(code, &row);
+    reads_its_levels(&row);
 }
 
 fn reads_its_slip(code: Code, row: &[u8]) {
@@ -57,6 +58,14 @@ fn turns_a_shorter_one(code: Code) {
     assert_eq!(to_old(&slip[..260], &mut turned), Ok(259));
     assert_eq!(to_new(&turned[..259], &mut back), size);
     assert_eq!(back, slip);
+}
+
+fn reads_its_levels(row: &[u8]) {
+    let mut text = [0; MAX_LEVELS];
+    let size = levels_write(8, 1, row, &mut text).expect("room for the text");
+    let mut read = [0; MAX_ROW];
+    assert_eq!(levels_read(8, 1, &text[..size], &mut read), Ok(()));
+    assert_eq!(read, row);
 }
 
 fn on_small_stack(call: impl FnOnce() + Send + 'static) -> thread::JoinHandle<()> {

@@ -13,7 +13,7 @@ use std::path::Path;
 use std::process::ExitCode;
 
 const USUAL_SEED: u64 = 7;
-const RANDOM_CASES: usize = 2_800;
+const RANDOM_CASES: usize = 2_600;
 /// No file of cases is longer.
 const MOST_BYTES: usize = 450_000;
 /// No slice is longer: the program that runs the cases has room for so many bytes.

@@ -89,7 +89,7 @@ pub fn bad_depth(random: &mut Random, r: usize) -> usize {
     }
 }
 
-fn bad_field(random: &mut Random, m: usize) -> usize {
+pub fn bad_field(random: &mut Random, m: usize) -> usize {
     if random.percent(50) {
         random.pick(&[0, 1, 3, 5, 6, 7, 9, 10, 12, 16, 32, 64])
     } else {
@@ -151,7 +151,7 @@ fn bad_points(random: &mut Random, call: &mut Call) {
 }
 
 /// Replaces up to three symbols by bytes outside the field, where there are such bytes.
-fn raise(random: &mut Random, m: usize, symbols: &mut [u8]) {
+pub fn raise(random: &mut Random, m: usize, symbols: &mut [u8]) {
     let size = 1 << m;
     if size > 255 || symbols.is_empty() {
         return;

@@ -4,6 +4,7 @@ pub mod codes;
 pub mod damage;
 mod faults;
 pub mod header;
+pub mod levels;
 pub mod rolls;
 pub mod slips;
 
@@ -34,7 +35,7 @@ pub struct Made {
 /// A buffer with room for every line: 240 symbols of three digits and 240 depths with their spaces.
 const ROOMY_TEXT: usize = 1500;
 
-/// How many of 129 cases are of each kind.
+/// How many of 145 cases are of each kind.
 const SHARES: [(Kind, usize); Kind::ALL.len()] = [
     (Kind::Encode, 12),
     (Kind::Decode, 24),
@@ -45,6 +46,8 @@ const SHARES: [(Kind, usize); Kind::ALL.len()] = [
     (Kind::RollFirst, 10),
     (Kind::ToNew, 8),
     (Kind::ToOld, 8),
+    (Kind::LevelsRead, 9),
+    (Kind::LevelsWrite, 7),
 ];
 
 /// Case `index` of the run with this seed.
@@ -72,6 +75,14 @@ fn of_kind(random: &mut Random, kind: Kind) -> Made {
         Kind::RollFirst => roll_first(random),
         Kind::ToNew => turn(random, 1),
         Kind::ToOld => turn(random, 2),
+        Kind::LevelsRead => Made {
+            call: levels::read(random),
+            origin: Origin::Any,
+        },
+        Kind::LevelsWrite => Made {
+            call: levels::write(random),
+            origin: Origin::Any,
+        },
     }
 }
 

@@ -7,6 +7,7 @@ pub mod code;
 pub mod decode;
 pub mod euclid;
 pub mod field;
+pub mod levels;
 pub mod line;
 pub mod poly;
 pub mod refusal;
@@ -65,6 +66,8 @@ fn detail(call: &Call, buffers: &mut [Vec<u8>]) -> Result<usize, Refusal> {
         (Kind::RollFirst, [], [roll], []) => roll::first(roll),
         (Kind::ToNew, [], [slip], [bytes]) => turn::to_new(slip, bytes),
         (Kind::ToOld, [], [slip], [bytes]) => turn::to_old(slip, bytes),
+        (Kind::LevelsRead, &[m, r], [text], [row]) => levels::read(m, r, text, row),
+        (Kind::LevelsWrite, &[m, r], [row], [text]) => levels::write(m, r, row, text),
         _ => panic!("a {} call has another shape", call.kind.name()),
     }
 }

@@ -1,4 +1,4 @@
-//! Why a call is refused: the number, and for three of them the place.
+//! Why a call is refused: the number, and for five of them the place.
 
 #[derive(Clone, Copy, Debug, PartialEq, Eq)]
 pub enum Refusal {
@@ -30,6 +30,10 @@ pub enum Refusal {
     SlipBits,
     /// The row is too long for edition 1.
     RowLong,
+    /// This line of a text is not a level as it must be written.
+    LevelLine(usize),
+    /// The level in this line is q^r or more.
+    LevelHigh(usize),
 }
 
 impl Refusal {
@@ -49,15 +53,19 @@ impl Refusal {
             Refusal::SlipLong => 12,
             Refusal::SlipBits => 13,
             Refusal::RowLong => 15,
+            Refusal::LevelLine(_) => 17,
+            Refusal::LevelHigh(_) => 18,
         }
     }
 
     /// The index that the refusal speaks of, 0 where it speaks of none.
     pub fn place(self) -> usize {
         match self {
-            Refusal::PointHigh(place) | Refusal::PointTwice(place) | Refusal::SymbolHigh(place) => {
-                place
-            }
+            Refusal::PointHigh(place)
+            | Refusal::PointTwice(place)
+            | Refusal::SymbolHigh(place)
+            | Refusal::LevelLine(place)
+            | Refusal::LevelHigh(place) => place,
             _ => 0,
         }
     }

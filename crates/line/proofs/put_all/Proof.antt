@@ -4,9 +4,10 @@ use native.Mathlib.Omega.{arith}
 use lib.ListN.{length, take}
 use borrow.Author.Needs.{needs}
 use Rattle.defs.specs.Line.{spaced}
-use Rattle.line.specs.Text.{Wrote}
-use Rattle.line.proofs.Decimal.{spaced-room}
-use Rattle.line.proofs.Pieces.{wrote-none, wrote-more, wrote-all}
+use Rattle.text.specs.Piece.{Wrote}
+use Rattle.line.proofs.Spaced.{spaced-room}
+use Rattle.text.proofs.Pieces.{wrote-none}
+use Rattle.line.proofs.Pieces.{wrote-more, wrote-all}
 use Rattle.line.proofs.put_all.Statement.{statement}
 use Rattle.line.proofs.put_all.Tie as tie
 

@@ -5,7 +5,8 @@ use lib.ListN.{length}
 use borrow.Author.Needs.{needs}
 use Rattle.defs.specs.Line.{heading, listed}
 use Rattle.defs.specs.declared.Answer.the-variants.{Done}
-use Rattle.line.proofs.Pieces.{left-over, wrote-done}
+use Rattle.text.proofs.Pieces.{left-over}
+use Rattle.line.proofs.Pieces.{wrote-done}
 use Rattle.line.proofs.Lengths.{length-done}
 use Rattle.line.proofs.put_done.Statement.{statement}
 use Rattle.line.proofs.put_done.Tie as tie

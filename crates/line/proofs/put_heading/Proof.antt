@@ -3,7 +3,7 @@ use Prim.Native.Nat.{suc, _+_, _≤_}
 use native.Mathlib.Omega.{arith}
 use lib.ListN.{length}
 use borrow.Author.Needs.{needs}
-use Rattle.defs.specs.Line.{decimal}
+use Rattle.defs.specs.Text.{decimal}
 use Rattle.line.proofs.Pieces.{heading-room, wrote-heading}
 use Rattle.line.proofs.put_heading.Statement.{statement}
 use Rattle.line.proofs.put_heading.Tie as tie

@@ -4,7 +4,8 @@ use native.Mathlib.Omega.{arith}
 use lib.ListN.{length}
 use borrow.Author.Needs.{needs}
 use Rattle.defs.specs.Line.{spaced}
-use Rattle.line.proofs.Pieces.{left-over, wrote-list}
+use Rattle.text.proofs.Pieces.{left-over}
+use Rattle.line.proofs.Pieces.{wrote-list}
 use Rattle.line.proofs.Lengths.{length-listed}
 use Rattle.line.proofs.put_list.Statement.{statement}
 use Rattle.line.proofs.put_list.Tie as tie

@@ -5,7 +5,8 @@ use lib.ListN.{length}
 use borrow.Author.Needs.{needs}
 use Rattle.defs.specs.Line.{heading}
 use Rattle.defs.specs.declared.Answer.the-variants.{Refused as No}
-use Rattle.line.proofs.Pieces.{left-over, wrote-refused}
+use Rattle.text.proofs.Pieces.{left-over}
+use Rattle.line.proofs.Pieces.{wrote-refused}
 use Rattle.line.proofs.Lengths.{length-refused}
 use Rattle.line.proofs.put_refused.Statement.{statement}
 use Rattle.line.proofs.put_refused.Tie as tie

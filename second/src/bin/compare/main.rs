@@ -7,6 +7,8 @@
 #[cfg(archive)]
 mod crash;
 #[cfg(archive)]
+mod levels;
+#[cfg(archive)]
 mod quotas;
 #[cfg(archive)]
 mod run;
@@ -22,7 +24,7 @@ mod written;
 use std::process::ExitCode;
 
 /// Enough for every count that a run must reach, and quick enough for every gate.
-const USUAL_CASES: u64 = 460_000;
+const USUAL_CASES: u64 = 520_000;
 const USUAL_SEED: u64 = 1;
 
 /// How a run ends; the number is the program's exit status. A run that the archive's code stops ends with 3.

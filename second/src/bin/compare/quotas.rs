@@ -1,9 +1,11 @@
 //! What a run must meet, and how often.
 
+use crate::levels::Mark;
 use crate::what::{Dimension, Of, Room, What, Writer};
 use second::call::Kind;
 use second::generate::codes::AROUND_LIMITS;
 use second::generate::header::{layout, EDITIONS};
+use second::generate::levels::Flaw;
 use second::generate::rolls::{Way, MOST_SLIPS};
 use second::generate::slips::Loose;
 use second::reference::code::{DEEPEST, LONGEST_ROW};
@@ -37,6 +39,7 @@ pub fn quotas() -> Vec<(What, u64)> {
     rolls(&mut quotas);
     loosened(&mut quotas);
     turned(&mut quotas);
+    levels(&mut quotas);
     quotas
 }
 
@@ -44,6 +47,7 @@ pub fn quotas() -> Vec<(What, u64)> {
 fn editions(kind: Kind) -> &'static [Of] {
     match kind {
         Kind::Encode | Kind::Decode | Kind::Distance => &[Of::None],
+        Kind::LevelsRead | Kind::LevelsWrite => &[Of::None],
         Kind::SlipWrite | Kind::SlipRead | Kind::Line | Kind::RollFirst => &[Of::One, Of::Two],
         Kind::ToNew => &[Of::One],
         Kind::ToOld => &[Of::Two],
@@ -96,7 +100,7 @@ fn limits(kind: Kind, quotas: &mut Vec<(What, u64)>) {
             quotas.push((what, AT_A_LIMIT));
         }
         let dimensions: &[Dimension] = match kind {
-            Kind::Distance => &[],
+            Kind::Distance | Kind::LevelsRead | Kind::LevelsWrite => &[],
             Kind::Encode | Kind::Decode | Kind::SlipWrite => &[
                 Dimension::One,
                 Dimension::All,
@@ -143,13 +147,7 @@ fn loosened(quotas: &mut Vec<(What, u64)>) {
 /// Slips of either writer turned over and back, the room for them from either side of what they need, and 15 whatever the room.
 fn turned(quotas: &mut Vec<(What, u64)>) {
     for kind in [Kind::ToNew, Kind::ToOld] {
-        let answered = [
-            (0, Room::Exact),
-            (0, Room::Longer),
-            (7, Room::OneShort),
-            (7, Room::Short),
-        ];
-        quotas.extend(answered.map(|(number, room)| (What::Turned(kind, number, room), EACH)));
+        rooms(kind, quotas);
         quotas.extend([0, 7].map(|number| (What::WrittenTurned(kind, number), MANY)));
         quotas.extend(
             [Writer::Second, Writer::Archive].map(|writer| (What::Back(writer, kind), MANY)),
@@ -165,6 +163,29 @@ fn turned(quotas: &mut Vec<(What, u64)>) {
             quotas.push(row(Kind::ToOld));
         }
     }
-    quotas.extend(Room::ALL.map(|room| (What::Turned(Kind::ToOld, 15, room), AT_A_LIMIT)));
+    quotas.extend(Room::ALL.map(|room| (What::Room(Kind::ToOld, 15, room), AT_A_LIMIT)));
     quotas.push((What::WrittenTurned(Kind::ToOld, 15), MANY));
+}
+
+/// Every flaw of a line, in texts of either writer; levels and lengths at their limits; the room for a text from either side.
+fn levels(quotas: &mut Vec<(What, u64)>) {
+    let kinds = [Kind::LevelsRead, Kind::LevelsWrite];
+    quotas.extend(Mark::READ.map(|mark| (What::Levels(Kind::LevelsRead, mark), EACH)));
+    for kind in kinds {
+        quotas.extend(Mark::WRITTEN.map(|mark| (What::Levels(kind, mark), EACH)));
+        quotas.push((What::LevelsAgain(kind), MANY));
+    }
+    quotas.extend(Flaw::ALL.map(|flaw| (What::Spoilt(flaw), EACH)));
+    rooms(Kind::LevelsWrite, quotas);
+}
+
+/// The room for what a call writes, from either side of what it needs.
+fn rooms(kind: Kind, quotas: &mut Vec<(What, u64)>) {
+    let answered = [
+        (0, Room::Exact),
+        (0, Room::Longer),
+        (7, Room::OneShort),
+        (7, Room::Short),
+    ];
+    quotas.extend(answered.map(|(number, room)| (What::Room(kind, number, room), EACH)));
 }

@@ -1,5 +1,6 @@
 //! How often a run has met what it counts, and whether that is enough.
 
+use crate::levels;
 use crate::quotas::quotas;
 use crate::what::{Dimension, Of, Room, What, Writer};
 use second::call::{Call, Header, Kind, Outcome};
@@ -7,6 +8,9 @@ use second::generate::codes::AROUND_LIMITS;
 use second::generate::header::told;
 use second::generate::slips::Change;
 use second::generate::{Made, Origin};
+use second::reference::code::LONGEST_ROW;
+use second::reference::field::Field;
+use second::reference::levels::text_of;
 use second::reference::line;
 use std::collections::BTreeMap;
 use std::fmt;
@@ -41,11 +45,14 @@ impl Tally {
             10 if of == Of::Two && call.inputs[0].len() == 3 => self.meet(What::ThreeBytes(kind)),
             0 | 9 if kind == Kind::Decode => self.count_decode(made, outcome),
             0 | 7 | 15 => {
-                if let Some(from) = kind.turns() {
-                    self.meet(What::Turned(kind, number, Room::of(from, call)));
+                if let Some(needed) = needed(call) {
+                    self.meet(What::Room(kind, number, Room::of(needed, call)));
                 }
             }
             _ => (),
+        }
+        for mark in levels::marks(call, outcome) {
+            self.meet(What::Levels(kind, mark));
         }
         self.count_origin(made, number);
         if let Some(header) = said(call) {
@@ -94,7 +101,7 @@ impl Tally {
         };
         let taken = matches!(number, 0 | 9);
         let refused = match kind {
-            Kind::Distance => number == 7,
+            Kind::Distance | Kind::LevelsRead | Kind::LevelsWrite => number == 7 && n > LONGEST_ROW,
             _ => number == 15 || number == 3 && count <= 1 << m,
         };
         if AROUND_LIMITS.contains(&n) && (taken || refused) {
@@ -146,6 +153,21 @@ fn number_for(call: &Call, outcome: &Outcome) -> u8 {
     }
 }
 
+/// The bytes that a call that turns a slip, or that writes levels, has to write, where nothing else is wrong with it.
+fn needed(call: &Call) -> Option<usize> {
+    let input = &call.inputs[0];
+    match (call.kind, &call.numbers[..]) {
+        (Kind::ToNew, _) => Some(input.len() + 1),
+        (Kind::ToOld, _) => Some(input.len() - 1),
+        (Kind::LevelsWrite, &[m, r])
+            if !input.is_empty() && input.len() <= LONGEST_ROW && input.len() % r == 0 =>
+        {
+            Some(text_of(Field::of(m)?, r, input).len())
+        }
+        _ => None,
+    }
+}
+
 /// The code that the call or its slip's header speaks of, checked by nobody. Of two rows, their length.
 fn said(call: &Call) -> Option<Header> {
     match call.kind {
@@ -158,14 +180,21 @@ fn said(call: &Call) -> Option<Header> {
                 call.numbers[0],
                 [0, 1].map(|row: usize| call.inputs[row].len()),
             );
-            let fits = (1..=8).contains(&r) && a == b && a % r == 0;
-            fits.then(|| Header {
-                r,
-                count: a / r,
-                ..Header::default()
-            })
+            rows_said(r, a).filter(|_| a == b)
         }
+        Kind::LevelsRead => rows_said(call.numbers[1], call.buffers[0].len()),
+        Kind::LevelsWrite => rows_said(call.numbers[1], call.inputs[0].len()),
     }
+}
+
+/// Rows of n symbols with chunks of r.
+fn rows_said(r: usize, n: usize) -> Option<Header> {
+    let fits = (1..=8).contains(&r) && n % r == 0;
+    fits.then(|| Header {
+        r,
+        count: n / r,
+        ..Header::default()
+    })
 }
 
 /// Most families are one line: each of their counts. A large one shows how many were met, and the least count.

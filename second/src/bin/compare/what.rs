@@ -1,7 +1,9 @@
 //! The things that a run counts, and the words for them.
 
+use crate::levels::Mark;
 use second::call::{Call, Kind};
 use second::generate::header::EDITION;
+use second::generate::levels::Flaw;
 use second::generate::rolls::Way;
 use second::generate::slips::Loose;
 
@@ -20,6 +22,7 @@ impl Of {
     pub fn number(call: &Call) -> Option<usize> {
         match call.kind {
             Kind::Encode | Kind::Decode | Kind::Distance => None,
+            Kind::LevelsRead | Kind::LevelsWrite => None,
             Kind::SlipWrite => Some(call.numbers[0]),
             Kind::SlipRead | Kind::Line | Kind::RollFirst | Kind::ToNew | Kind::ToOld => {
                 EDITION.read(&call.inputs[0])
@@ -79,7 +82,7 @@ pub enum Dimension {
     None,
 }
 
-/// The room for a slip that is turned over: what it needs is known from its length.
+/// The room for what a call writes.
 #[derive(Clone, Copy, Debug, PartialEq, Eq, PartialOrd, Ord)]
 pub enum Room {
     Short,
@@ -91,11 +94,8 @@ pub enum Room {
 impl Room {
     pub const ALL: [Room; 4] = [Room::Short, Room::OneShort, Room::Exact, Room::Longer];
 
-    /// That of a call on a readable slip of this edition.
-    pub fn of(from: usize, call: &Call) -> Room {
-        let [slip, room] = [call.inputs[0].len(), call.buffers[0].len()];
-        let needed = if from == 1 { slip + 1 } else { slip - 1 };
-        match room {
+    pub fn of(needed: usize, call: &Call) -> Room {
+        match call.buffers[0].len() {
             room if room + 1 < needed => Room::Short,
             room if room < needed => Room::OneShort,
             room if room == needed => Room::Exact,
@@ -153,8 +153,8 @@ pub enum What {
     Loosened(Writer, Loose),
     /// The archive read a slip of this edition and wrote it again.
     Again(Of),
-    /// A readable slip with this room, and what the call that turns it answers: 0, 7 or 15.
-    Turned(Kind, u8, Room),
+    /// What a call writes has this room, and the call answers 0, 7 or 15.
+    Room(Kind, u8, Room),
     /// A slip that the archive turned over and back, by who wrote it and the call that came first.
     Back(Writer, Kind),
     /// A slip that the archive wrote, and what the call that turns it answers; and a length around a limit.
@@ -164,6 +164,11 @@ pub enum What {
         n: usize,
         taken: bool,
     },
+    Levels(Kind, Mark),
+    /// The archive read a text and wrote it again, or wrote it and read it again.
+    LevelsAgain(Kind),
+    /// A text that the archive wrote is refused for this flaw.
+    Spoilt(Flaw),
 }
 
 impl What {
@@ -225,7 +230,7 @@ impl What {
                 (family, loose(bit))
             }
             What::Again(of) => ("slips read and written again".into(), of.name().into()),
-            What::Turned(kind, number, room) => {
+            What::Room(kind, number, room) => {
                 let family = format!("{} answers {number} with room", kind.name());
                 (family, room.name().into())
             }
@@ -240,6 +245,15 @@ impl What {
             What::WrittenRow { kind, n, taken } => {
                 let name = format!("{} of slips of the archive", kind.name());
                 (rows_of(&name, taken), n.to_string())
+            }
+            What::Levels(kind, mark) => {
+                let (family, which) = mark.words();
+                (format!("{} {family}", kind.name()), which.into())
+            }
+            What::LevelsAgain(kind) => ("levels there and back".into(), kind.name().into()),
+            What::Spoilt(flaw) => {
+                let family = "texts of the archive refused for";
+                (family.into(), format!("{flaw:?}").to_lowercase())
             }
         }
     }

@@ -1,6 +1,7 @@
 //! What the archive wrote and read, tried further: its slips are read back, refused once a bit is changed that holds nothing,
 //! joined to rolls and turned over; what it read is written again, and what it turned over is turned back.
 
+use crate::levels;
 use crate::run::{agrees, is_mixed, walk_of_archive};
 use crate::tally::Tally;
 use crate::turned::{back_again, turns};
@@ -14,11 +15,12 @@ use second::generate::slips::{flip, loose_bits, which};
 /// The line of a slip with a bit that should be 0.
 const LINE: &[u8] = b"13 0\n";
 
-/// How many slips and rolls were tried, and the slips of the next roll, as they are and with loose bits changed.
+/// How many slips, rolls and texts were tried, and the slips of the next roll, as they are and with loose bits changed.
 #[derive(Default)]
 pub struct Written {
     loosened: usize,
     rolls: usize,
+    texts: usize,
     slips: Vec<Vec<u8>>,
     loose: Vec<Vec<u8>>,
 }
@@ -45,6 +47,11 @@ impl Written {
                 writes_again(archive, call, outcome)
             }
             (Kind::ToNew | Kind::ToOld, 0) => back_again(archive, tally, call, outcome),
+            (Kind::LevelsRead, 0) => levels::writes_again(archive, tally, call, outcome),
+            (Kind::LevelsWrite, 0) => {
+                self.texts += 1;
+                levels::reads_again(archive, tally, call, outcome, self.texts)
+            }
             _ => true,
         }
     }

@@ -13,6 +13,8 @@ use std::fmt::Write;
 
 /// The length of the longest line.
 const LONGEST_LINE: usize = 1448;
+/// The length of the longest text of levels.
+const LONGEST_LEVELS: usize = 960;
 /// The longest row and the longest slip of edition 1.
 const LONGEST_OLD_ROW: usize = 128;
 const LONGEST_OLD_SLIP: usize = 259;
@@ -214,6 +216,9 @@ fn stack_uses() -> Vec<(&'static str, usize)> {
     };
     let (mut old, mut new) = ([0; LONGEST_OLD_SLIP], [0; LONGEST_OLD_SLIP + 1]);
     archive::slip_write(1, shorter, &row[..LONGEST_OLD_ROW], &mut old);
+    let mut levels = [0; LONGEST_LEVELS];
+    let size = (archive::levels_write(8, 1, row, &mut levels) >> 8) as usize;
+    let mut again = [0; LONGEST_LEVELS];
     vec![
         (
             "encode",
@@ -250,6 +255,14 @@ fn stack_uses() -> Vec<(&'static str, usize)> {
         (
             "to_old",
             stack_use(&mut || _ = archive::to_old(&new, &mut old)),
+        ),
+        (
+            "levels_read",
+            stack_use(&mut || _ = archive::levels_read(8, 1, &levels[..size], &mut out)),
+        ),
+        (
+            "levels_write",
+            stack_use(&mut || _ = archive::levels_write(8, 1, row, &mut again)),
         ),
     ]
 }

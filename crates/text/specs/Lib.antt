@@ -1,0 +1,3 @@
+-- What the functions on texts hand one another.
+pub mod Piece
+pub mod Number
