@@ -4,12 +4,8 @@ use Rattle.defs.specs.Field.{add, modulus, times2}
 use Rattle.theory.proofs.Generator.{powers}
 use Rattle.defs.proofs.Search.{both, same}
 use Rattle.field.proofs.Rules.{powers_table}
-use Rattle.field.proofs.powers4.Statement.{statement}
-use Rattle.field.proofs.powers4.Tie as tie
+use Rattle.field.proofs.powers4.Goals as goal
 
-returns : tie.Need-returns
+pub returns : goal.returns
 unfolding both same powers times2 modulus add
 returns c = powers_table 2 (lit< tt) tt
-
-pub powers4_spec : {M : Type 1} → statement M
-powers4_spec = tie.close (tie.spec returns)

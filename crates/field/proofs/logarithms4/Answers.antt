@@ -4,12 +4,8 @@ use lib.Dec.{lit<}
 use Rattle.defs.specs.Field.{add, modulus, times2}
 use Rattle.theory.proofs.Generator.{powers, exps4}
 use Rattle.field.proofs.Rules.{every, is_logarithm, logarithms_table}
-use Rattle.field.proofs.logarithms4.Statement.{statement}
-use Rattle.field.proofs.logarithms4.Tie as tie
+use Rattle.field.proofs.logarithms4.Goals as goal
 
-returns : tie.Need-returns
+pub returns : goal.returns
 unfolding every is_logarithm exps4 powers times2 modulus add
 returns c = logarithms_table 2 (lit< tt) exps4 refl refl tt
-
-pub logarithms4_spec : {M : Type 1} → statement M
-logarithms4_spec = tie.close (tie.spec returns)

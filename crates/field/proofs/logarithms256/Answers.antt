@@ -4,12 +4,8 @@ use lib.Dec.{lit<}
 use Rattle.defs.specs.Field.{add, modulus, times2}
 use Rattle.theory.proofs.Generator.{powers, exps256}
 use Rattle.field.proofs.Rules.{every, is_logarithm, logarithms_table}
-use Rattle.field.proofs.logarithms256.Statement.{statement}
-use Rattle.field.proofs.logarithms256.Tie as tie
+use Rattle.field.proofs.logarithms256.Goals as goal
 
-returns : tie.Need-returns
+pub returns : goal.returns
 unfolding every is_logarithm exps256 powers times2 modulus add
 returns c = logarithms_table 8 (lit< tt) exps256 refl refl tt
-
-pub logarithms256_spec : {M : Type 1} → statement M
-logarithms256_spec = tie.close (tie.spec returns)

@@ -4,12 +4,8 @@ use Rattle.defs.specs.Field.{add, modulus, times2}
 use Rattle.theory.proofs.Generator.{powers}
 use Rattle.defs.proofs.Search.{both, same}
 use Rattle.field.proofs.Rules.{powers_table}
-use Rattle.field.proofs.powers256.Statement.{statement}
-use Rattle.field.proofs.powers256.Tie as tie
+use Rattle.field.proofs.powers256.Goals as goal
 
-returns : tie.Need-returns
+pub returns : goal.returns
 unfolding both same powers times2 modulus add
 returns c = powers_table 8 (lit< tt) tt
-
-pub powers256_spec : {M : Type 1} → statement M
-powers256_spec = tie.close (tie.spec returns)

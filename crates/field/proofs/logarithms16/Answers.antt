@@ -4,12 +4,8 @@ use lib.Dec.{lit<}
 use Rattle.defs.specs.Field.{add, modulus, times2}
 use Rattle.theory.proofs.Generator.{powers, exps16}
 use Rattle.field.proofs.Rules.{every, is_logarithm, logarithms_table}
-use Rattle.field.proofs.logarithms16.Statement.{statement}
-use Rattle.field.proofs.logarithms16.Tie as tie
+use Rattle.field.proofs.logarithms16.Goals as goal
 
-returns : tie.Need-returns
+pub returns : goal.returns
 unfolding every is_logarithm exps16 powers times2 modulus add
 returns c = logarithms_table 4 (lit< tt) exps16 refl refl tt
-
-pub logarithms16_spec : {M : Type 1} → statement M
-logarithms16_spec = tie.close (tie.spec returns)
