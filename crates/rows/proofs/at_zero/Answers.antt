@@ -9,4 +9,4 @@ use borrow.Author.Rules.{rules}
 use Rattle.rows.proofs.at_zero.Goals as goal
 
 pub returns-then-message-r : goal.returns-then-message-r
-returns-then-message-r c = c.Chunk-of.ensures ∙ chunk_short c.args.message.now _ (omega arith) c.requires
+returns-then-message-r c = c.chunk_of.ensures ∙ chunk_short c.args.message.now _ (omega arith) c.requires

@@ -7,8 +7,8 @@ use borrow.Author.Rules.{rules}
 use Rattle.rows.proofs.chunk_damage.Goals as goal
 
 pub overflow_sub-result : goal.overflow_sub-result
-overflow_sub-result c = omega (arith, c.agree.ensures, agree_le c.args.r (λ j. get_or c.Chunk-of.result j 0) (λ j. get_or c.chunk_of-y.result j 0))
+overflow_sub-result c = omega (arith, c.agree.ensures, agree_le c.args.r (λ j. get_or c.chunk_of-x.result j 0) (λ j. get_or c.chunk_of-y.result j 0))
 
 pub returns : goal.returns
 returns c = let a = c.args in
-    damage_found a.r a.a.now a.b.now a.i _ _ _ c.Chunk-of.ensures c.chunk_of-y.ensures c.agree.ensures
+    damage_found a.r a.a.now a.b.now a.i _ _ _ c.chunk_of-x.ensures c.chunk_of-y.ensures c.agree.ensures

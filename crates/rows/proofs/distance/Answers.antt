@@ -11,23 +11,19 @@ use borrow.Author.Rules.{rules}
 use Rattle.rows.proofs.distance.Goals as goal
 
 pub nonzero_div-a : goal.nonzero_div-a
-nonzero_div-a c = ?
+nonzero_div-a c =
+    let fine : distance_verdict c.args.r (length c.args.a.now) (length c.args.b.now) ≡ Fine = sym c.check_lengths-v.ensures ∙ c.in_default.is in
+    omega (arith, depth_pos c.args.r c.args.a.now c.args.b.now fine)
 
 pub returns : goal.returns
 returns c =
-    let r : ℕ = c.args.r in
-    let a : List ℕ = c.args.a.now in
-    let b : List ℕ = c.args.b.now in
-    let fine : distance_verdict r (length a) (length b) ≡ Fine = sym c.check_lengths-v.ensures ∙ c.in_default.is in
-    distance_done r a b fine _ c.row_distance.ensures
+    let fine : distance_verdict c.args.r (length c.args.a.now) (length c.args.b.now) ≡ Fine = sym c.check_lengths-v.ensures ∙ c.in_default.is in
+    distance_done c.args.r c.args.a.now c.args.b.now fine _ c.row_distance.ensures
 
 pub returns-in-Refused : goal.returns-in-Refused
 returns-in-Refused c = distance_refused _ c.args.a.now c.args.b.now _ (sym c.check_lengths-v.ensures ∙ c.in-Refused.is)
 
 pub row_distance-requires : goal.row_distance-requires
 row_distance-requires c =
-    let r : ℕ = c.args.r in
-    let a : List ℕ = c.args.a.now in
-    let b : List ℕ = c.args.b.now in
-    let fine : distance_verdict r (length a) (length b) ≡ Fine = sym c.check_lengths-v.ensures ∙ c.in_default.is in
+    let fine : distance_verdict c.args.r (length c.args.a.now) (length c.args.b.now) ≡ Fine = sym c.check_lengths-v.ensures ∙ c.in_default.is in
     distance_rows _ _ _ fine

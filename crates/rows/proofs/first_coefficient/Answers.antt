@@ -16,4 +16,4 @@ loop-i-preserved c = walked_more _ _ _ _ _ _ c.requires.terms c.requires.logarit
 pub returns-clause-value : goal.returns-clause-value
 returns-clause-value c = let s = c.requires in
     let w = c.loop-i.invariant in
-    walked_sum _ _ _ _ _ _ s.0 s.1.0 _ _ _ _ w c.loop-i-test.false
+    walked_sum _ _ _ _ _ _ s.terms s.logarithm _ _ _ _ w c.loop-i-test.false

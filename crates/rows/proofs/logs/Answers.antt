@@ -10,12 +10,9 @@ use Rattle.rows.proofs.logs.Goals as goal
 
 pub loop-i-preserved : goal.loop-i-preserved
 loop-i-preserved c =
-    let size : c.field_size-order.result ≡ 2 ^ c.args.m = c.field_size-order.ensures in
-    let low : c.loop-i.i < 2 ^ c.args.m - 1 = omega (arith, size) in
+    let low : c.loop-i.i < 2 ^ c.args.m - 1 = omega (arith, c.field_size-order.ensures) in
     let given = c.requires in
-    logs_more _ given.0 _ _ _ c.loop-i.invariant low (given.1.at _ (omega (arith, low)))
+    logs_more _ given.width _ _ _ c.loop-i.invariant low (given.powers_of.at _ (omega (arith, low)))
 
 pub returns : goal.returns
-returns c =
-    let size : c.field_size-order.result ≡ 2 ^ c.args.m = c.field_size-order.ensures in
-    logs_last _ c.requires.width _ _ c.loop-i.invariant (omega (arith, size))
+returns c = logs_last _ c.requires.width _ _ c.loop-i.invariant (omega (arith, c.field_size-order.ensures))

@@ -11,11 +11,7 @@ pub loop-i-init : goal.loop-i-init
 loop-i-init c = powers_first _ c.requires
 
 pub loop-i-preserved : goal.loop-i-preserved
-loop-i-preserved c =
-    let size : c.field_size.result ≡ 2 ^ c.args.m = c.field_size.ensures in
-    powers_more _ c.requires _ _ _ _ c.loop-i.invariant (omega (arith, size)) c.times2-x.ensures
+loop-i-preserved c = powers_more _ c.requires _ _ _ _ c.loop-i.invariant (omega (arith, c.field_size.ensures)) c.times2-x.ensures
 
 pub returns : goal.returns
-returns c =
-    let size : c.field_size.result ≡ 2 ^ c.args.m = c.field_size.ensures in
-    powers_last _ c.requires _ _ _ c.loop-i.invariant (omega (arith, size))
+returns c = powers_last _ c.requires _ _ _ c.loop-i.invariant (omega (arith, c.field_size.ensures))

@@ -14,10 +14,8 @@ loop-i-init c = (omega arith, distance_none _ _ _, omega arith)
 
 pub loop-i-preserved : goal.loop-i-preserved
 loop-i-preserved c =
-    let a : List ℕ = c.args.a.now in
-    let b : List ℕ = c.args.b.now in
     let shallow : c.chunk_damage-sum.result ≤ deepest = omega (arith, c.requires.depth, damage_top _ _ _ _ _ c.chunk_damage-sum.ensures) in
-    (omega arith, distance_more _ a b _ _ _ c.loop-i.invariant.1 c.chunk_damage-sum.ensures, omega (arith, c.loop-i.invariant, shallow))
+    (omega arith, distance_more _ c.args.a.now c.args.b.now _ _ _ c.loop-i.invariant.1 c.chunk_damage-sum.ensures, omega (arith, c.loop-i.invariant, shallow))
 
 pub overflow_add-sum : goal.overflow_add-sum
 overflow_add-sum c =

@@ -14,4 +14,4 @@ loop-j-init c = (omega arith, refl, filled_none _ _ _)
 pub loop-j-preserved : goal.loop-j-preserved
 loop-j-preserved c = let a = c.args in
     let inv = c.loop-j.invariant in
-    (omega arith, simp length-set inv.1, rw inv.2 (filled_more a.row.now a.at (λ (i : ℕ). get_or a.t4 i 0) _ (omega arith)))
+    (omega arith, simp length-set inv.1, rw inv.2 (filled_more a.row.now a.at (λ (i : ℕ). get_or a.chunk i 0) _ (omega arith)))

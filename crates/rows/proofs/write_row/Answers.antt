@@ -13,42 +13,30 @@ use borrow.Author.Rules.{rules}
 use Rattle.rows.proofs.write_row.Goals as goal
 
 pub evaluate-chunk-requires-clause-evaluable : goal.evaluate-chunk-requires-clause-evaluable
-evaluate-chunk-requires-clause-evaluable c =
-    let given : Writable c.args.code c.args.message.now c.args.row.now = c.requires in
-    let few : c.loop-i.i < c.args.code.count = c.loop-i-test.true in
-    evaluable _ _ _ given _ _ _ c.message_logs-symbols.ensures c.logs-logs.ensures c.powers-powers.ensures _ few
+evaluate-chunk-requires-clause-evaluable c = evaluable _ _ _ c.requires _ _ _ c.message_logs-symbols.ensures c.logs-logs.ensures c.powers-powers.ensures _ c.loop-i-test.true
 
 pub logs-logs-requires-clause-width : goal.logs-logs-requires-clause-width
 logs-logs-requires-clause-width c =
-    let given : Writable c.args.code c.args.message.now c.args.row.now = c.requires in
-    let numbers : Numbers c.args.code.m c.args.code.r c.args.code.k c.args.code.count = code_numbers given.code in
+    let numbers : Numbers c.args.code.m c.args.code.r c.args.code.k c.args.code.count = code_numbers c.requires.code in
     numbers.width
 
 pub loop-i-init : goal.loop-i-init
 loop-i-init c = (progress_first _ _ _ _ _, refl)
 
 pub loop-i-preserved : goal.loop-i-preserved
-loop-i-preserved c =
-    let given : Writable c.args.code c.args.message.now c.args.row.now = c.requires in
-    let few : c.loop-i.i < c.args.code.count = c.loop-i-test.true in
-    let e = c.evaluate-chunk.ensures in
-    (written_more _ _ _ given _ _ _ _ _ c.loop-i.invariant.0 few e.0 c.store.ensures, e.1)
+loop-i-preserved c = let e = c.evaluate-chunk.ensures in
+    (written_more _ _ _ c.requires _ _ _ _ _ c.loop-i.invariant.0 c.loop-i-test.true e.value c.store.ensures, e.exponents_len_2)
 
 pub message_logs-symbols-requires-clause-symbols : goal.message_logs-symbols-requires-clause-symbols
-message_logs-symbols-requires-clause-symbols c =
-    let given : Writable c.args.code c.args.message.now c.args.row.now = c.requires in
-    let b = given in (b.message.symbols, short _ _ _ b)
+message_logs-symbols-requires-clause-symbols c = let b = c.requires in (b.message.symbols, short _ _ _ b)
 
 pub powers-powers-requires : goal.powers-powers-requires
 powers-powers-requires c =
-    let given : Writable c.args.code c.args.message.now c.args.row.now = c.requires in
-    let numbers : Numbers c.args.code.m c.args.code.r c.args.code.k c.args.code.count = code_numbers given.code in
+    let numbers : Numbers c.args.code.m c.args.code.r c.args.code.k c.args.code.count = code_numbers c.requires.code in
     numbers.width
 
 pub store-requires : goal.store-requires
 store-requires c =
-    let given : Writable c.args.code c.args.message.now c.args.row.now = c.requires in
-    let numbers : Numbers c.args.code.m c.args.code.r c.args.code.k c.args.code.count = code_numbers given.code in
-    let few : c.loop-i.i < c.args.code.count = c.loop-i-test.true in
-    let fits : c.loop-i.at + c.args.code.r ≤ length c.args.row.now = chunk_fits _ _ _ given _ _ c.loop-i.invariant.0.at_is few in
+    let numbers : Numbers c.args.code.m c.args.code.r c.args.code.k c.args.code.count = code_numbers c.requires.code in
+    let fits : c.loop-i.at + c.args.code.r ≤ length c.args.row.now = chunk_fits _ _ _ c.requires _ _ c.loop-i.invariant.0.at_is c.loop-i-test.true in
     (numbers.r_top, omega (arith, fits, c.loop-i.invariant.0.long))

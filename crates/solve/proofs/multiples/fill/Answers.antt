@@ -13,4 +13,4 @@ loop-x-init c = (omega arith, omega arith, c.requires.rows, filled_first _ _ _ _
 
 pub loop-x-preserved : goal.loop-x-preserved
 loop-x-preserved c = let E = c.set_multiple.ensures in
-    (omega arith, omega arith, E.0, filled_next _ _ _ _ c.requires.base_bound.2 c.loop-x.invariant.0 c.loop-x.invariant.3 E.1)
+    (omega arith, omega arith, E.rows_2, filled_next _ _ _ _ c.requires.base_bound.2 c.loop-x.invariant.0 c.loop-x.invariant.3 E.set)

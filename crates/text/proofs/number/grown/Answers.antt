@@ -13,10 +13,7 @@ overflow_sub-digit c =
     omega (arith, digit)
 
 pub returns : goal.returns
-returns c =
-    let x : ℕ = c.value-1.given.0.0 in
-    let is : c.args.value ≡ Is x = c.in-Is.is in
-    grown_low _ _ c.args.b x is c.if-top-digit.false (omega (arith, c.if-top-digit.false, c.if-top-digit-2.false))
+returns c = grown_low _ _ c.args.b c.in-Is.v c.in-Is.is c.if-top-digit.false (omega (arith, c.if-top-digit.false, c.if-top-digit-2.false))
 
 pub returns-in_default : goal.returns-in_default
 returns-in_default c = grown_above _ _ _ c.in_default.is
@@ -25,7 +22,4 @@ pub returns-then-top-digit : goal.returns-then-top-digit
 returns-then-top-digit c = grown_digit _ _ c.args.b c.if-top-digit.true
 
 pub returns-then-top-digit-2 : goal.returns-then-top-digit-2
-returns-then-top-digit-2 c =
-    let x : ℕ = c.value-1.given.0.0 in
-    let is : c.args.value ≡ Is x = c.in-Is.is in
-    grown_high _ _ c.args.b x is c.if-top-digit.false (omega (arith, c.if-top-digit.false, c.if-top-digit-2.true))
+returns-then-top-digit-2 c = grown_high _ _ c.args.b c.in-Is.v c.in-Is.is c.if-top-digit.false (omega (arith, c.if-top-digit.false, c.if-top-digit-2.true))

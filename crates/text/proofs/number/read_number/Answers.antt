@@ -21,4 +21,4 @@ pub returns : goal.returns
 returns c = begun_last _ _ _ _ _ c.loop-i.invariant c.loop-i-test.false
 
 pub returns-then-not-is_digit : goal.returns-then-not-is_digit
-returns-then-not-is_digit c = begun_stop _ _ _ _ _ c.loop-i.invariant c.loop-i-test.true (sym c.is_digit.ensures ∙ c.if-not-is_digit.true
+returns-then-not-is_digit c = begun_stop _ _ _ _ _ c.loop-i.invariant c.loop-i-test.true (sym c.is_digit.ensures ∙ c.if-not-is_digit.true)
