@@ -21,13 +21,13 @@ use Rattle.levels.specs.Base.{Base}
 
 -- b is what the test of m found
 module _ (m r n : ℕ) (b : Bool) (found : b ≡ is_width m) where
-  pub shape_field : not b ≡ true → Refused Field ≡ shape_verdict m r n
+  pub shape_field : b ≡ false → Refused Field ≡ shape_verdict m r n
   unfolding shape_verdict refuse
-  shape_field t = rw (sym found ∙ not-true b t)
+  shape_field t = rw (sym found ∙ t)
 
-  pub shape_rest : not b ≡ false → (v : Verdict) → v ≡ distance_verdict r n n → v ≡ shape_verdict m r n
+  pub shape_rest : b ≡ true → (v : Verdict) → v ≡ distance_verdict r n n → v ≡ shape_verdict m r n
   unfolding shape_verdict refuse
-  shape_rest t v e = rw (sym found ∙ not-false b t) e
+  shape_rest t v e = rw (sym found ∙ t) e
 
 -- a row of n symbols and its depth
 pub record Shape (m r n : ℕ) : Type 0 where

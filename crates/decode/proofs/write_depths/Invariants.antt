@@ -1,0 +1,19 @@
+-- `decode::write_depths` meets its contract: the depths of the first i chunks are written and added up.
+use Prim.Native.Nat.{◌*◌, ◌-◌, ◌≤◌}
+use mathlib.Core.Path.{◌≡◌, refl}
+use borrow.Author.Rules.{rules}
+use native.Mathlib.Omega.{arith}
+use lib.ListN.{length, length-set}
+use Rattle.defs.specs.Distance.{damage, distance}
+use Rattle.defs.specs.Limits.{deepest}
+use Rattle.theory.specs.Fill.{filled}
+use Rattle.theory.proofs.Fill.{filled_none, filled_next}
+use Rattle.rows.proofs.Measure.{chunk_within, damage_top, distance_none, distance_more}
+use Rattle.decode.proofs.Outcome.{measured}
+use Rattle.decode.proofs.write_depths.Given as goal
+
+abbrev pub invariant-loop-i : goal.invariant-loop-i
+invariant-loop-i l = (l.i ≤ l.count) × (length l.depths ≡ length l.initial.depths) × (l.depths ≡ filled l.initial.depths 0 (damage l.r l.sent l.row) l.i) × (l.total ≡ distance l.r l.i l.sent l.row) × (l.total ≤ deepest * l.i)
+
+abbrev pub decreases-loop-i : goal.decreases-loop-i
+decreases-loop-i l = l.count - l.i
