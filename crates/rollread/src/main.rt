@@ -12,7 +12,7 @@ use std::io::Read;
 const ROOM: usize = 65536;
 
 // Where a walk stands: at so many bytes, and over or not.
-#[derive(Drop)]
+#[derive(Clone, Copy)]
 pub struct Standing {
     at: usize,
     is_over: bool,

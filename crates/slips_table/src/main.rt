@@ -6,7 +6,7 @@ ghost use Rattle.std.specs.Prelude.{◌<◌};
 
 use std::io;
 
-// The table has no more bytes.
+// More bytes than the table has.
 const ROOM: usize = 65536;
 
 fn wide(x: u8) -> usize
