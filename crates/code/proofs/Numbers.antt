@@ -15,8 +15,8 @@ use Rattle.theory.proofs.Width.{field_top}
 use Rattle.theory.proofs.Limits.{width_known}
 
 -- b is what the test of m found
-pub is_wide : (m : ℕ) (b : Bool) → b ≡ is_width m → not b ≡ false → Width m
-is_wide m b found t = width_known m (sym found ∙ not-false b t)
+pub is_wide : (m : ℕ) (b : Bool) → b ≡ is_width m → b ≡ true → Width m
+is_wide m b found t = width_known m (sym found ∙ t)
 
 -- the product is formed only where it is this small
 pub product_small : (m r count size : ℕ) → Width m → r ≤ deepest → size ≡ 2 ^ m → count ≤ size → r * count ≤ 2048
@@ -35,13 +35,13 @@ from_depth top m r k count = refuse (eqb r 0 || ltb deepest r) Depth (from_point
 -- b is what the test of m found, and size what the size of the field was found to be
 module _ (top m r k count : ℕ) where
   module _ (b : Bool) (found : b ≡ is_width m) where
-    pub not_width : not b ≡ true → numbers_verdict top m r k count ≡ Refused Field
+    pub not_width : b ≡ false → numbers_verdict top m r k count ≡ Refused Field
     unfolding numbers_verdict refuse
-    not_width t = rw (sym found ∙ not-true b t)
+    not_width t = rw (sym found ∙ t)
 
-    pub width_passed : not b ≡ false → numbers_verdict top m r k count ≡ from_depth top m r k count
+    pub width_passed : b ≡ true → numbers_verdict top m r k count ≡ from_depth top m r k count
     unfolding numbers_verdict from_depth from_points from_dimension refuse
-    width_passed t = rw (sym found ∙ not-false b t)
+    width_passed t = rw (sym found ∙ t)
 
   pub no_depth : r ≡ 0 → from_depth top m r k count ≡ Refused Depth
   unfolding from_depth refuse

@@ -1,4 +1,6 @@
 // Arithmetic of the fields with 4, 16 and 256 elements.
+#![tactic(auto)]
+
 mod binomial;
 mod tables;
 

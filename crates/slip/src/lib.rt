@@ -14,7 +14,7 @@ pub use write::slip_write;
 pub const LONGEST_SLIP: usize = 4 + (2 * LONGEST * 8 + 7) / 8;
 
 // What the header of a slip says.
-#[derive(Drop)]
+#[derive(Clone, Copy)]
 pub struct Head {
     edition: usize,
     layout: Layout,
