@@ -1,4 +1,6 @@
 // The number and the detail of an answer, as numbers.
+#![tactic(auto)]
+
 ghost use Rattle.std.specs.Prelude.{◌≡◌};
 ghost use Rattle.defs.specs.Refusal.{number_of, place_of, number, detail};
 

@@ -1,6 +1,6 @@
 // Frames on standard input: a byte for the call, then its numbers in eight bytes each, then its slices, each behind its length in
 // two bytes. Low bytes come first. An input that ends too soon counts as zeros.
-ghost use Rattle.std.specs.Prelude.{◌<◌};
+ghost use Rattle.std.specs.Prelude.{◌≡◌, ◌<◌, length};
 ghost use Rattle.std.specs.Io.{ReadsAtMost};
 
 use printing::read_full;
@@ -59,7 +59,8 @@ pub fn number(input: &mut impl Read, there: bool) -> io::Result<usize> {
 
 // Puts a slice at the front of s and says how long it is: 0 where the frame has none, or there is no room for it.
 pub fn slice(input: &mut impl Read, there: bool, s: &mut [u8]) -> io::Result<usize>
-    ensures { ReadsAtMost result s.new }
+    ensures front { ReadsAtMost result s.new }
+    ensures size { length s.new ≡ length s.old }
 {
     if !there {
         return Ok(0);

@@ -1,4 +1,6 @@
 // The check of a code: refusals 1 to 6 in their order, and the code as one value with its points inside it.
+#![tactic(auto)]
+
 mod buffer;
 mod chunk;
 

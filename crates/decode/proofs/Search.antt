@@ -22,7 +22,6 @@ use Rattle.code.proofs.Known.{code_numbers}
 use Rattle.rows.specs.Chunk.{Rows}
 use Rattle.pair.specs.declared.Paired.{Paired}
 use Rattle.pair.specs.Found.{Found, IsRow}
-use Rattle.pair.specs.Found as Found
 use Rattle.pair.proofs.Outcome.{short}
 use Rattle.quotient.specs.Quotient.{Dividing, Quotient}
 use Rattle.decode.specs.Search.{Candidate, Sent, IsSought, within, beyond}

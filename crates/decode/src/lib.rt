@@ -1,4 +1,6 @@
 // Decode: what the quotient of a pair is gets measured against the row; and the call.
+#![tactic(auto)]
+
 ghost use Rattle.std.specs.Prelude.{◌≡◌, ◌≤◌, length};
 ghost use Rattle.defs.specs.Field.{Width};
 ghost use Rattle.defs.specs.Decode.{Decoded};

@@ -1,5 +1,5 @@
 -- What the slip reader answers, and what it leaves in the points and the row, for every input.
-use Rattle.std.specs.Prelude.{ℕ, ◌+◌, ◌*◌, ◌≡◌, Bool, ◌||◌, not, List, eqb, ltb, length}
+use Rattle.std.specs.Prelude.{ℕ, ◌+◌, ◌*◌, ◌≡◌, Bool, ◌||◌, not, List, ltb, length}
 use Rattle.defs.specs.Refusal.{refuse, and_then, kept}
 use Rattle.defs.specs.Limits.{numbers_verdict, first_twice}
 use Rattle.defs.specs.Slip.{is_edition, head_size, edition_in, layout_in, width_in, depth_in, count_in, dimension_in, size_in, points_in, row_in, spare_in, fill_in}

@@ -1,4 +1,5 @@
 // The types that the calls exchange. The definitions that contracts cite are in specs/; there is no function here.
+#![tactic(auto)]
 
 // The symbols that a chunk may have.
 pub const DEEPEST: usize = 8;

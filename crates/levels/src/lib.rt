@@ -1,4 +1,6 @@
 // Levels from the bench: a text with one whole number to a line, read into a row and written from one.
+#![tactic(auto)]
+
 mod level;
 mod lines;
 

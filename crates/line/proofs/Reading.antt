@@ -4,7 +4,6 @@ use mathlib.Core.Path.{◌≡◌, refl, sym, ◌∙◌}
 use mathlib.Core.List.{List, []}
 use native.Mathlib.Omega.{arith}
 use lib.ListN.{length}
-use Rattle.defs.specs.Refusal.{answer}
 use Rattle.defs.specs.Limits.{longest}
 use Rattle.defs.specs.Read.{read_verdict, reading, Read}
 use Rattle.defs.specs.Decode.{Decoded}

@@ -1,4 +1,6 @@
 // The line that slipread prints, from the bytes of a slip.
+#![tactic(auto)]
+
 ghost use Rattle.std.specs.Prelude.{◌≡◌, [], ◌+◌, ◌≤◌, length};
 ghost use Rattle.defs.specs.Limits.{longest};
 ghost use Rattle.defs.specs.Line.{spaced, listed, heading, line_of, Lined};

@@ -1,5 +1,7 @@
 // The pair of polynomials that meets the equations of a row (formula 9 of the paper), or the proof that there is none.
 // The equations stand in a working table, an unknown to a column: the coefficients of Q0, then those of Q1. Row i * r + j has depth j of chunk i.
+#![tactic(auto)]
+
 ghost use Rattle.std.specs.Prelude.{◌≡◌, ℕ, ◌+◌, ◌*◌, ◌^◌, ◌<◌, ◌≤◌, length, get_or, take};
 ghost use Rattle.defs.specs.Field.{add};
 ghost use Rattle.defs.specs.Place.{tab, Symbols};

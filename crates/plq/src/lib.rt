@@ -1,4 +1,6 @@
 // The calls once more as functions for C: a slice is a pointer and a length, an answer one number.
+#![tactic(auto)]
+
 ghost use Rattle.std.specs.Prelude.{◌≡◌, ◌^◌, ◌<◌};
 ghost use Rattle.defs.specs.Refusal.{detail};
 ghost use Rattle.defs.specs.Encode.{distance_answer};

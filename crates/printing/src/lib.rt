@@ -1,6 +1,7 @@
 // What the programs share: bytes read into a buffer, and the line of a slip printed.
 #![tactic(auto)]
 
+ghost use Rattle.std.specs.Prelude.{◌≡◌, length};
 ghost use Rattle.std.specs.Io.{ReadsAtMost};
 
 use defs::Answer;
@@ -10,7 +11,8 @@ use std::io::Read;
 
 // Reads until the buffer is full or the input ends, and answers how many bytes it put at the front.
 pub fn read_full(input: &mut impl Read, buf: &mut [u8]) -> io::Result<usize>
-    ensures { ReadsAtMost result buf.new }
+    ensures front { ReadsAtMost result buf.new }
+    ensures size { length buf.new ≡ length buf.old }
 {
     let mut done = 0;
     while done < buf.len() {

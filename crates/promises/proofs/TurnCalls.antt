@@ -1,20 +1,19 @@
 -- The two calls that turn a slip: where each is done, and what stands in the bytes that it leaves.
 use Prim.Native.Nat.{ℕ, ◌*◌, ◌≤◌}
 use mathlib.Core.Bool.{true, false}
-use mathlib.Core.Path.{◌≡◌, refl, ap, sym, ◌∙◌}
+use mathlib.Core.Path.{◌≡◌, refl, sym, ◌∙◌}
 use mathlib.Core.List.{List}
 use native.Mathlib.Omega.{arith}
 use lib.Dec.{eqb}
 use lib.ListN.{length, take}
 use borrow.Author.Tests.{ltb-true, eqb-false}
-use Rattle.defs.specs.Refusal.{number_of, answer, kept}
+use Rattle.defs.specs.Refusal.{number_of, kept}
 use Rattle.defs.specs.Limits.{longest}
 use Rattle.defs.specs.Slip.{is_edition, layout_of, edition_in, depth_in, count_in, points_in, row_in}
 use Rattle.defs.specs.Write.{front}
 use Rattle.defs.specs.Read.{first_verdict_of, first_verdict, head_verdict, read_verdict, reading, Read}
 use Rattle.defs.specs.Line.{Line}
 use Rattle.defs.specs.Turn.{turned, turn_verdict, Turned}
-use Rattle.defs.specs.declared.Refusal.{Refusal}
 use Rattle.defs.specs.declared.Refusal.TheVariants.{RowLong}
 use Rattle.defs.specs.declared.Verdict.TheVariants.{Fine}
 use Rattle.defs.specs.declared.Answer.{Answer}
@@ -26,7 +25,7 @@ use Rattle.slip.proofs.Reader.{read_room}
 use Rattle.slip.proofs.Refusals.{first_every}
 use Rattle.slip.proofs.Taken.{length_points, length_row, row_low, read_sound}
 use Rattle.promises.proofs.RoundTrip.{slip_read_back}
-use Rattle.promises.proofs.Turn.{Turnable, turn_done, done_turn, old_new, new_old, new_old_only, within, row_is, edition_new, line_kept}
+use Rattle.promises.proofs.Turn.{Turnable, turn_done, done_turn, old_new, new_old, new_old_only, within, row_is, line_kept}
 
 -- OLD TO NEW, with room, is done on every readable slip of edition 1
 pub to_new_done : (slip bytes : List ℕ) {a : Answer} {bytes' : List ℕ} → Turned 1 2 slip bytes a bytes'

@@ -1,4 +1,6 @@
 // A roll, slips one behind another: its first slip, and what stands behind it.
+#![tactic(auto)]
+
 ghost use Rattle.std.specs.Prelude.{◌≡◌, length};
 ghost use Rattle.defs.specs.Refusal.{answer};
 ghost use Rattle.defs.specs.Roll.{roll_verdict, first_part, rest_part};

@@ -2,7 +2,7 @@
 // line is the last one. The buffer is read full, walked, and what is left of it moved to its front before the next turn.
 #![tactic(auto)]
 
-ghost use Rattle.std.specs.Prelude.{◌≤◌, length, IfOk};
+ghost use Rattle.std.specs.Prelude.{◌≡◌, ◌≤◌, length, IfOk};
 
 use slip::LONGEST_SLIP;
 use std::io;
@@ -62,7 +62,8 @@ fn walk_part(rt: &impl Print, part: &[u8], is_last: bool) -> io::Result<Standing
 // Fills the buffer behind the bytes that are left, and answers how many it then has.
 fn fill(input: &mut impl Read, buf: &mut [u8], left: usize) -> io::Result<usize>
     requires { left ≤ length buf.old }
-    ensures { IfOk result (λ n. n ≤ length buf.new) }
+    ensures within { IfOk result (λ n. n ≤ length buf.new) }
+    ensures size { length buf.new ≡ length buf.old }
 {
     let n = printing::read_full(input, &mut buf[left..])?;
     Ok(left + n)

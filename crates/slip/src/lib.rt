@@ -1,4 +1,6 @@
 // Slips of both editions: their writer and their reader.
+#![tactic(auto)]
+
 mod layout;
 mod read;
 mod write;

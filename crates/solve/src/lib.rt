@@ -1,5 +1,7 @@
 // Elimination over a field with 2^m elements, to the first column that depends on those before it.
 // A system's rows stand in a working table, one after the other; its last rows and columns may be unused.
+#![tactic(auto)]
+
 mod multiples;
 
 ghost use Rattle.std.specs.Prelude.{◌≡◌, ℕ, ◌+◌, ◌*◌, ◌<◌, ◌≤◌, ◌^◌, length};

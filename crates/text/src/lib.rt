@@ -1,4 +1,6 @@
 // Decimal numbers written into a buffer, piece behind piece, and a text handed out to a caller.
+#![tactic(auto)]
+
 mod number;
 
 ghost use Rattle.std.specs.Prelude.{[], ◌∷◌, ◌+◌, ◌<◌, ◌≤◌, length};

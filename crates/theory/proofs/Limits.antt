@@ -13,7 +13,6 @@ use Rattle.defs.specs.Field.{Width}
 use Rattle.defs.specs.Place.{least, first_high, Symbols}
 use Rattle.defs.specs.Refusal.{refuse, and_then}
 use Rattle.defs.specs.Limits.{deepest, longest, is_width, numbers_verdict, first_twice, code_verdict, Within, Inside}
-use Rattle.defs.specs.declared.Refusal.{Refusal}
 use Rattle.defs.specs.declared.Verdict.{Verdict}
 use Rattle.defs.specs.declared.Verdict.TheVariants.{Fine, Refused}
 use Rattle.theory.specs.Limits.{Distinct, Numbers, Limits}

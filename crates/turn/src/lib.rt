@@ -1,4 +1,6 @@
 // A slip turned into one of the other edition.
+#![tactic(auto)]
+
 ghost use Rattle.std.specs.Prelude.{true, ◌≡◌};
 ghost use Rattle.defs.specs.Slip.{is_edition};
 ghost use Rattle.defs.specs.Turn.{Turned};

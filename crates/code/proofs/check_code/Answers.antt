@@ -6,7 +6,6 @@ use Rattle.defs.specs.Limits.{longest, numbers_verdict}
 use Rattle.defs.specs.declared.Verdict.TheVariants.{Fine}
 use Rattle.theory.proofs.Limits.{numbers_known, count_small}
 use Rattle.code.proofs.Outcome.{refused_numbers, refused_high, refused_twice, passed}
-use borrow.Author.Rules.{rules}
 use Rattle.code.proofs.check_code.Goals as goal
 
 pub first_high-high-requires : goal.first_high-high-requires

@@ -1,11 +1,7 @@
 -- `check_numbers` meets its contract: each test that is passed leaves the checks behind it, and each that fails is its way out.
-use Prim.Native.Nat.{◌*◌, ◌^◌, ◌≤◌}
 use mathlib.Core.Path.{◌≡◌, sym, ◌∙◌}
-use native.Mathlib.Omega.{arith}
-use Rattle.defs.specs.Field.{Width}
 use Rattle.defs.specs.Limits.{numbers_verdict}
-use Rattle.code.proofs.Numbers.{product_small, from_depth, from_points, from_dimension, is_wide, not_width, width_passed, no_depth, too_deep, depth_passed, no_points, too_many, too_long, points_passed, no_dimension, too_large, all_passed}
-use borrow.Author.Rules.{rules}
+use Rattle.code.proofs.Numbers.{from_depth, from_points, from_dimension, not_width, width_passed, no_depth, too_deep, depth_passed, no_points, too_many, too_long, points_passed, no_dimension, too_large, all_passed}
 use Rattle.code.proofs.check_numbers.Goals as goal
 
 pub returns : goal.returns
@@ -13,7 +9,7 @@ returns c =
     let past_width : numbers_verdict c.args.top c.args.m c.args.r c.args.k c.args.count ≡ from_depth c.args.top c.args.m c.args.r c.args.k c.args.count = width_passed _ _ _ _ _ _ c.is_width.ensures c.if-not-is_width.false in
     let past_depth : numbers_verdict c.args.top c.args.m c.args.r c.args.k c.args.count ≡ from_points c.args.top c.args.m c.args.r c.args.k c.args.count = past_width ∙ depth_passed _ _ _ _ _ c.if-r-eq0.false c.if-r-gt-DEEPEST.false in
     let past_points : numbers_verdict c.args.top c.args.m c.args.r c.args.k c.args.count ≡ from_dimension c.args.r c.args.k c.args.count = past_depth
-      ∙ points_passed _ _ _ _ _ c.if-count-eq0.false _ c.field_size.ensures c.if-field_size-count.false c.if-top-n.false in
+    ∙ points_passed _ _ _ _ _ c.if-count-eq0.false _ c.field_size.ensures c.if-field_size-count.false c.if-top-n.false in
     sym (past_points ∙ all_passed _ _ _ c.if-k-eq0.false c.if-n-k.false)
 
 pub returns-then-count-eq0 : goal.returns-then-count-eq0
@@ -33,7 +29,7 @@ returns-then-k-eq0 c =
     let past_width : numbers_verdict c.args.top c.args.m c.args.r c.args.k c.args.count ≡ from_depth c.args.top c.args.m c.args.r c.args.k c.args.count = width_passed _ _ _ _ _ _ c.is_width.ensures c.if-not-is_width.false in
     let past_depth : numbers_verdict c.args.top c.args.m c.args.r c.args.k c.args.count ≡ from_points c.args.top c.args.m c.args.r c.args.k c.args.count = past_width ∙ depth_passed _ _ _ _ _ c.if-r-eq0.false c.if-r-gt-DEEPEST.false in
     let past_points : numbers_verdict c.args.top c.args.m c.args.r c.args.k c.args.count ≡ from_dimension c.args.r c.args.k c.args.count = past_depth
-      ∙ points_passed _ _ _ _ _ c.if-count-eq0.false _ c.field_size.ensures c.if-field_size-count.false c.if-top-n.false in
+    ∙ points_passed _ _ _ _ _ c.if-count-eq0.false _ c.field_size.ensures c.if-field_size-count.false c.if-top-n.false in
     sym (past_points ∙ no_dimension _ _ _ c.if-k-eq0.true)
 
 pub returns-then-n-k : goal.returns-then-n-k
@@ -41,7 +37,7 @@ returns-then-n-k c =
     let past_width : numbers_verdict c.args.top c.args.m c.args.r c.args.k c.args.count ≡ from_depth c.args.top c.args.m c.args.r c.args.k c.args.count = width_passed _ _ _ _ _ _ c.is_width.ensures c.if-not-is_width.false in
     let past_depth : numbers_verdict c.args.top c.args.m c.args.r c.args.k c.args.count ≡ from_points c.args.top c.args.m c.args.r c.args.k c.args.count = past_width ∙ depth_passed _ _ _ _ _ c.if-r-eq0.false c.if-r-gt-DEEPEST.false in
     let past_points : numbers_verdict c.args.top c.args.m c.args.r c.args.k c.args.count ≡ from_dimension c.args.r c.args.k c.args.count = past_depth
-      ∙ points_passed _ _ _ _ _ c.if-count-eq0.false _ c.field_size.ensures c.if-field_size-count.false c.if-top-n.false in
+    ∙ points_passed _ _ _ _ _ c.if-count-eq0.false _ c.field_size.ensures c.if-field_size-count.false c.if-top-n.false in
     sym (past_points ∙ too_large _ _ _ c.if-k-eq0.false c.if-n-k.true)
 
 pub returns-then-not-is_width : goal.returns-then-not-is_width

@@ -1,6 +1,5 @@
 -- `check_symbols` meets its contract: a symbol outside the field is found before the end, or none is.
 use Rattle.code.proofs.Outcome.{symbol_high, symbols_fine}
-use borrow.Author.Rules.{rules}
 use Rattle.code.proofs.check_symbols.Goals as goal
 
 pub returns : goal.returns

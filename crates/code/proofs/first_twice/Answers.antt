@@ -1,14 +1,9 @@
 -- `first_twice` meets its contract: no symbol before i equals an earlier one, and seen marks those passed.
-use Prim.Native.Nat.{ℕ, ◌-◌, ◌<◌, ◌≤◌}
-use mathlib.Core.Bool.{false}
-use mathlib.Core.Path.{◌≡◌}
 use native.Mathlib.Omega.{arith}
-use lib.ListN.{length}
 use borrow.Author.Count.{below_more}
 use Rattle.defs.specs.Limits.{first_twice}
 use Rattle.theory.proofs.Place.{found_least, none_least}
-use Rattle.code.proofs.Search.{Seen, twice_at, seen_first, seen_more, twice_here, once_here}
-use borrow.Author.Rules.{rules}
+use Rattle.code.proofs.Search.{seen_first, seen_more, twice_here, once_here}
 use Rattle.code.proofs.first_twice.Goals as goal
 
 pub loop-i-init : goal.loop-i-init
@@ -16,7 +11,7 @@ loop-i-init c = (omega arith, seen_first _, λ j l. absurd (omega arith))
 
 pub loop-i-preserved : goal.loop-i-preserved
 loop-i-preserved c = let at = c.loop-i in
-    let low = c.shared_slice_known-1.given at.i in
+    let low = c.type_inv.points at.i in
     (omega arith, seen_more _ _ _ at.invariant.1 (omega (arith, low)), below_more _ _ at.invariant.2 (once_here _ _ _ at.invariant.1 (omega (arith, low)) c.if-seen-x-ne0.false))
 
 pub returns : goal.returns

@@ -2,13 +2,8 @@
 use Prim.Native.Nat.{ℕ, ◌-◌, ◌<◌, ◌≤◌}
 use mathlib.Core.Bool.{false}
 use mathlib.Core.Path.{◌≡◌}
-use native.Mathlib.Omega.{arith}
 use lib.ListN.{length}
-use borrow.Author.Count.{below_more}
-use Rattle.defs.specs.Limits.{first_twice}
-use Rattle.theory.proofs.Place.{found_least, none_least}
-use Rattle.code.proofs.Search.{Seen, twice_at, seen_first, seen_more, twice_here, once_here}
-use borrow.Author.Rules.{rules}
+use Rattle.code.proofs.Search.{Seen, twice_at}
 use Rattle.code.proofs.first_twice.Given as goal
 
 abbrev pub invariant-loop-i : goal.invariant-loop-i

@@ -1,6 +1,5 @@
 -- `pad` meets its contract: the points are copied to the front of zeros.
 use Rattle.code.specs.Checked.{zeros, padded}
-use borrow.Author.Rules.{rules}
 use Rattle.code.proofs.pad.Goals as goal
 
 pub returns : goal.returns

@@ -1,6 +1,4 @@
 -- `decode::check_rest` meets its contract: each test is one of the verdict's.
-use Prim.Native.Nat.{ℕ}
-use mathlib.Core.List.{List}
 use borrow.Author.Rules.{rules}
 use Rattle.decode.proofs.Outcome.{rest_row, rest_message, rest_depths, rest_symbols}
 use Rattle.decode.proofs.check_rest.Goals as goal

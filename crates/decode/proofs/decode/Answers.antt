@@ -3,7 +3,6 @@ use Prim.Native.Nat.{◌≤◌}
 use mathlib.Core.Path.{◌≡◌, sym, ◌∙◌}
 use native.Mathlib.Omega.{arith}
 use lib.ListN.{length, length-take}
-use borrow.Author.Rules.{rules}
 use Rattle.defs.specs.Limits.{longest, code_verdict, Inside}
 use Rattle.theory.specs.Limits.{Numbers}
 use Rattle.theory.proofs.Limits.{inside_known}
@@ -23,11 +22,11 @@ copy-requires c =
     let verdict : c.check_code-checked.result.verdict ≡ code_verdict longest c.args.m c.args.r c.args.k c.args.points.now = verdict_is _ _ _ _ _ c.check_code-checked.ensures in
     let inside : let a = c.args in Inside a.m a.r a.k a.points.now = sym verdict ∙ c.in_default.is in
     let admitted : let a = c.args in
-      Admitted a.m a.r a.k a.points.now a.row.now a.message.now a.depths.now c.check_code-checked.result.code = record {
-    inside = inside;
-    passed = code_passed _ _ _ _ _ c.check_code-checked.ensures inside;
-    fine = sym c.check_rest-rest.ensures ∙ c.in_default-rest.is;
-  } in
+    Admitted a.m a.r a.k a.points.now a.row.now a.message.now a.depths.now c.check_code-checked.result.code = record {
+      inside = inside;
+      passed = code_passed _ _ _ _ _ c.check_code-checked.ensures inside;
+      fine = sym c.check_rest-rest.ensures ∙ c.in_default-rest.is;
+    } in
     simp length-take (omega (arith, (room admitted).0))
 
 pub overflow_mul-n : goal.overflow_mul-n
@@ -42,11 +41,11 @@ returns c =
     let verdict : c.check_code-checked.result.verdict ≡ code_verdict longest c.args.m c.args.r c.args.k c.args.points.now = verdict_is _ _ _ _ _ c.check_code-checked.ensures in
     let inside : let a = c.args in Inside a.m a.r a.k a.points.now = sym verdict ∙ c.in_default.is in
     let admitted : let a = c.args in
-      Admitted a.m a.r a.k a.points.now a.row.now a.message.now a.depths.now c.check_code-checked.result.code = record {
-    inside = inside;
-    passed = code_passed _ _ _ _ _ c.check_code-checked.ensures inside;
-    fine = sym c.check_rest-rest.ensures ∙ c.in_default-rest.is;
-  } in
+    Admitted a.m a.r a.k a.points.now a.row.now a.message.now a.depths.now c.check_code-checked.result.code = record {
+      inside = inside;
+      passed = code_passed _ _ _ _ _ c.check_code-checked.ensures inside;
+      fine = sym c.check_rest-rest.ensures ∙ c.in_default-rest.is;
+    } in
     decoded admitted c.seek-sought.ensures c.in_default-s.is _ c.copy.ensures _ _ c.write_depths.ensures
 
 pub returns-in-Refused : goal.returns-in-Refused
@@ -65,11 +64,11 @@ returns-in-Refused-s c =
     let verdict : c.check_code-checked.result.verdict ≡ code_verdict longest c.args.m c.args.r c.args.k c.args.points.now = verdict_is _ _ _ _ _ c.check_code-checked.ensures in
     let inside : let a = c.args in Inside a.m a.r a.k a.points.now = sym verdict ∙ c.in_default.is in
     let admitted : let a = c.args in
-      Admitted a.m a.r a.k a.points.now a.row.now a.message.now a.depths.now c.check_code-checked.result.code = record {
-    inside = inside;
-    passed = code_passed _ _ _ _ _ c.check_code-checked.ensures inside;
-    fine = sym c.check_rest-rest.ensures ∙ c.in_default-rest.is;
-  } in
+    Admitted a.m a.r a.k a.points.now a.row.now a.message.now a.depths.now c.check_code-checked.result.code = record {
+      inside = inside;
+      passed = code_passed _ _ _ _ _ c.check_code-checked.ensures inside;
+      fine = sym c.check_rest-rest.ensures ∙ c.in_default-rest.is;
+    } in
     nothing_near admitted c.seek-sought.ensures _ c.in-Refused-s.is
 
 pub seek-sought-requires-clause-code : goal.seek-sought-requires-clause-code
@@ -77,11 +76,11 @@ seek-sought-requires-clause-code c =
     let verdict : c.check_code-checked.result.verdict ≡ code_verdict longest c.args.m c.args.r c.args.k c.args.points.now = verdict_is _ _ _ _ _ c.check_code-checked.ensures in
     let inside : let a = c.args in Inside a.m a.r a.k a.points.now = sym verdict ∙ c.in_default.is in
     let admitted : let a = c.args in
-      Admitted a.m a.r a.k a.points.now a.row.now a.message.now a.depths.now c.check_code-checked.result.code = record {
-    inside = inside;
-    passed = code_passed _ _ _ _ _ c.check_code-checked.ensures inside;
-    fine = sym c.check_rest-rest.ensures ∙ c.in_default-rest.is;
-  } in
+    Admitted a.m a.r a.k a.points.now a.row.now a.message.now a.depths.now c.check_code-checked.result.code = record {
+      inside = inside;
+      passed = code_passed _ _ _ _ _ c.check_code-checked.ensures inside;
+      fine = sym c.check_rest-rest.ensures ∙ c.in_default-rest.is;
+    } in
     let x = admitted in x.passed.is_code
 
 pub seek-sought-requires-clause-row : goal.seek-sought-requires-clause-row
@@ -89,11 +88,11 @@ seek-sought-requires-clause-row c =
     let verdict : c.check_code-checked.result.verdict ≡ code_verdict longest c.args.m c.args.r c.args.k c.args.points.now = verdict_is _ _ _ _ _ c.check_code-checked.ensures in
     let inside : let a = c.args in Inside a.m a.r a.k a.points.now = sym verdict ∙ c.in_default.is in
     let admitted : let a = c.args in
-      Admitted a.m a.r a.k a.points.now a.row.now a.message.now a.depths.now c.check_code-checked.result.code = record {
-    inside = inside;
-    passed = code_passed _ _ _ _ _ c.check_code-checked.ensures inside;
-    fine = sym c.check_rest-rest.ensures ∙ c.in_default-rest.is;
-  } in
+    Admitted a.m a.r a.k a.points.now a.row.now a.message.now a.depths.now c.check_code-checked.result.code = record {
+      inside = inside;
+      passed = code_passed _ _ _ _ _ c.check_code-checked.ensures inside;
+      fine = sym c.check_rest-rest.ensures ∙ c.in_default-rest.is;
+    } in
     let x = admitted in is_row x
 
 pub slice_bounds-copy-end : goal.slice_bounds-copy-end
@@ -135,11 +134,11 @@ write_depths-requires c =
     let verdict : c.check_code-checked.result.verdict ≡ code_verdict longest c.args.m c.args.r c.args.k c.args.points.now = verdict_is _ _ _ _ _ c.check_code-checked.ensures in
     let inside : let a = c.args in Inside a.m a.r a.k a.points.now = sym verdict ∙ c.in_default.is in
     let admitted : let a = c.args in
-      Admitted a.m a.r a.k a.points.now a.row.now a.message.now a.depths.now c.check_code-checked.result.code = record {
-    inside = inside;
-    passed = code_passed _ _ _ _ _ c.check_code-checked.ensures inside;
-    fine = sym c.check_rest-rest.ensures ∙ c.in_default-rest.is;
-  } in
+    Admitted a.m a.r a.k a.points.now a.row.now a.message.now a.depths.now c.check_code-checked.result.code = record {
+      inside = inside;
+      passed = code_passed _ _ _ _ _ c.check_code-checked.ensures inside;
+      fine = sym c.check_rest-rest.ensures ∙ c.in_default-rest.is;
+    } in
     let arrays : (length c.seek-sought.result.message ≡ longest) × (length c.seek-sought.result.row ≡ longest) = whole c.seek-sought.ensures c.in_default-s.is in
     let x = admitted in
     (rows_measured x _ (omega arith) _ (omega (arith, arrays.1)), omega (arith, (room x).1))

@@ -1,7 +1,7 @@
 -- `decode::row_of` meets its contract: what is written stands at the front of the array.
-use mathlib.Core.Path.{refl, sym}
+use mathlib.Core.Path.{sym}
 use lib.Seq.{length-take-le}
-use Rattle.decode.proofs.Outcome.{row_short, message_within, writable, sent_front}
+use Rattle.decode.proofs.Outcome.{row_short, message_within, writable}
 use Rattle.decode.proofs.row_of.Goals as goal
 
 pub slice_bounds-message-end : goal.slice_bounds-message-end

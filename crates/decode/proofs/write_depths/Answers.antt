@@ -1,14 +1,11 @@
 -- `decode::write_depths` meets its contract: the depths of the first i chunks are written and added up.
-use Prim.Native.Nat.{◌*◌, ◌-◌, ◌≤◌}
-use mathlib.Core.Path.{◌≡◌, refl}
-use borrow.Author.Rules.{rules}
+use Prim.Native.Nat.{◌≤◌}
+use mathlib.Core.Path.{refl}
 use native.Mathlib.Omega.{arith}
-use lib.ListN.{length, length-set}
-use Rattle.defs.specs.Distance.{damage, distance}
+use lib.ListN.{length-set}
 use Rattle.defs.specs.Limits.{deepest}
-use Rattle.theory.specs.Fill.{filled}
 use Rattle.theory.proofs.Fill.{filled_none, filled_next}
-use Rattle.rows.proofs.Measure.{chunk_within, damage_top, distance_none, distance_more}
+use Rattle.rows.proofs.Measure.{damage_top, distance_none, distance_more}
 use Rattle.decode.proofs.Outcome.{measured}
 use Rattle.decode.proofs.write_depths.Goals as goal
 

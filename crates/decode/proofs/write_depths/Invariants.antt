@@ -1,15 +1,10 @@
 -- `decode::write_depths` meets its contract: the depths of the first i chunks are written and added up.
 use Prim.Native.Nat.{◌*◌, ◌-◌, ◌≤◌}
-use mathlib.Core.Path.{◌≡◌, refl}
-use borrow.Author.Rules.{rules}
-use native.Mathlib.Omega.{arith}
-use lib.ListN.{length, length-set}
+use mathlib.Core.Path.{◌≡◌}
+use lib.ListN.{length}
 use Rattle.defs.specs.Distance.{damage, distance}
 use Rattle.defs.specs.Limits.{deepest}
 use Rattle.theory.specs.Fill.{filled}
-use Rattle.theory.proofs.Fill.{filled_none, filled_next}
-use Rattle.rows.proofs.Measure.{chunk_within, damage_top, distance_none, distance_more}
-use Rattle.decode.proofs.Outcome.{measured}
 use Rattle.decode.proofs.write_depths.Given as goal
 
 abbrev pub invariant-loop-i : goal.invariant-loop-i

@@ -1,5 +1,4 @@
 -- `check_shape` meets its contract: 1, or what the check of the lengths finds.
-use borrow.Author.Rules.{rules}
 use Rattle.levels.proofs.Shape.{shape_field, shape_rest}
 use Rattle.levels.proofs.check_shape.Goals as goal
 

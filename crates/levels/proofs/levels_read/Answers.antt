@@ -1,10 +1,8 @@
 -- `levels_read` meets its contract: each way out by its lemma.
-use Prim.Native.Nat.{ℕ, ◌+◌, ◌/◌}
+use Prim.Native.Nat.{◌+◌, ◌/◌}
 use mathlib.Core.Path.{◌≡◌, sym, ◌∙◌}
-use mathlib.Core.List.{List}
 use native.Mathlib.Omega.{arith}
 use lib.ListN.{length}
-use borrow.Author.Rules.{rules}
 use Rattle.defs.specs.Levels.{shape_verdict}
 use Rattle.defs.specs.declared.Verdict.TheVariants.{Fine}
 use Rattle.levels.specs.Lines.{text_checks}

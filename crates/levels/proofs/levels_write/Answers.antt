@@ -1,15 +1,11 @@
 -- `levels_write` meets its contract: each way out by its lemma.
-use Prim.Native.Nat.{ℕ, ◌≤◌}
 use mathlib.Core.Path.{◌≡◌, refl, sym, ◌∙◌}
-use mathlib.Core.List.{List}
 use lib.ListN.{length}
-use lib.Seq.{length-take-le}
-use borrow.Author.Rules.{rules}
 use Rattle.defs.specs.Encode.{symbols_verdict}
 use Rattle.defs.specs.Levels.{shape_verdict}
 use Rattle.defs.specs.declared.Verdict.TheVariants.{Fine}
 use Rattle.levels.proofs.Shape.{shape_known}
-use Rattle.levels.proofs.Outcome.{write_shape, write_symbol, leveled, words_within, write_done}
+use Rattle.levels.proofs.Outcome.{write_shape, write_symbol, leveled, write_done}
 use Rattle.levels.proofs.levels_write.Goals as goal
 
 pub check_symbols-high-requires : goal.check_symbols-high-requires

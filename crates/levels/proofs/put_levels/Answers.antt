@@ -1,13 +1,9 @@
 -- `put_levels` writes level after level; after i turns the first i are written.
-use Prim.Native.Nat.{ℕ, ◌+◌, ◌*◌, ◌-◌, ◌/◌, ◌<◌, ◌≤◌}
-use mathlib.Core.Path.{◌≡◌, refl}
-use native.Mathlib.Nat.{div-le_self}
+use Prim.Native.Nat.{◌/◌, ◌<◌}
+use mathlib.Core.Path.{refl}
 use native.Mathlib.Omega.{arith}
-use lib.ListN.{length, take}
-use borrow.Author.Rules.{rules}
-use Rattle.defs.specs.Levels.{levels_of, levels_text}
-use Rattle.text.specs.Piece.{Wrote}
-use Rattle.levels.proofs.Writing.{chunk_inside, chunk_low, level_room, level_wrote, text_begun, levels_wrote}
+use lib.ListN.{length}
+use Rattle.levels.proofs.Writing.{chunk_low, level_room, level_wrote, text_begun, levels_wrote}
 use Rattle.levels.proofs.put_levels.Goals as goal
 
 pub level_of-requires-clause-low : goal.level_of-requires-clause-low

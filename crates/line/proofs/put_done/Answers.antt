@@ -3,7 +3,6 @@ use mathlib.Core.List.{List}
 use Prim.Native.Nat.{ℕ, ◌+◌, ◌≤◌}
 use native.Mathlib.Omega.{arith}
 use lib.ListN.{length}
-use borrow.Author.Rules.{rules}
 use Rattle.defs.specs.Line.{heading, listed}
 use Rattle.defs.specs.declared.Answer.TheVariants.{Done}
 use Rattle.text.proofs.Pieces.{left_over}

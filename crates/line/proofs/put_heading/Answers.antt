@@ -2,7 +2,6 @@
 use Prim.Native.Nat.{suc, ◌+◌, ◌≤◌}
 use native.Mathlib.Omega.{arith}
 use lib.ListN.{length}
-use borrow.Author.Rules.{rules}
 use Rattle.defs.specs.Text.{decimal}
 use Rattle.line.proofs.Pieces.{heading_room, wrote_heading}
 use Rattle.line.proofs.put_heading.Goals as goal

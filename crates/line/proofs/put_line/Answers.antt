@@ -1,9 +1,5 @@
 -- `put_line` writes the line of what the reader answers.
-use mathlib.Core.Path.{◌≡◌}
 use native.Mathlib.Omega.{arith}
-use lib.ListN.{length}
-use borrow.Author.Rules.{rules}
-use Rattle.defs.specs.Limits.{longest}
 use Rattle.line.proofs.Reading.{refused_room, refused_text, taken, taken_text}
 use Rattle.line.proofs.put_line.Goals as goal
 

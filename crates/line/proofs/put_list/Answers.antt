@@ -2,7 +2,6 @@
 use Prim.Native.Nat.{◌+◌, ◌≤◌}
 use native.Mathlib.Omega.{arith}
 use lib.ListN.{length}
-use borrow.Author.Rules.{rules}
 use Rattle.defs.specs.Line.{spaced}
 use Rattle.text.proofs.Pieces.{left_over}
 use Rattle.line.proofs.Pieces.{wrote_list}

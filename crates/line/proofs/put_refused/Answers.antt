@@ -2,7 +2,6 @@
 use Prim.Native.Nat.{◌+◌, ◌≤◌}
 use native.Mathlib.Omega.{arith}
 use lib.ListN.{length}
-use borrow.Author.Rules.{rules}
 use Rattle.defs.specs.Line.{heading}
 use Rattle.defs.specs.declared.Answer.TheVariants.{Refused as No}
 use Rattle.text.proofs.Pieces.{left_over}

@@ -1,10 +1,6 @@
 -- `pair::add_multiple` meets its contract.
 use Prim.Native.Nat.{◌≤◌, ◌-◌}
-use native.Mathlib.Omega.{arith}
 use Rattle.pair.specs.Fill.{Added}
-use Rattle.pair.proofs.Depths.{all_bytes}
-use Rattle.pair.proofs.Multiples.{added_none, added_more, added_all}
-use borrow.Author.Rules.{rules}
 use Rattle.pair.proofs.add_multiple.Given as goal
 
 abbrev pub invariant-loop-j : goal.invariant-loop-j

@@ -1,13 +1,8 @@
 -- `pair::add_products` meets its contract.
 use Prim.Native.Nat.{◌+◌, ◌≤◌, ◌-◌}
-use mathlib.Core.Path.{ap, ap₂}
-use native.Mathlib.Omega.{arith}
 use lib.ListN.{get_or}
 use Rattle.defs.specs.Field.{add}
-use Rattle.theory.proofs.Order.{eq_lt}
 use Rattle.pair.specs.Fill.{look, Span}
-use Rattle.pair.proofs.Spans.{span_none, span_more, span_all, span_before, span_behind}
-use borrow.Author.Rules.{rules}
 use Rattle.pair.proofs.add_products.Given as goal
 
 abbrev pub invariant-loop-a : goal.invariant-loop-a

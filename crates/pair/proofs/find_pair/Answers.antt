@@ -9,7 +9,6 @@ use Rattle.solve.specs.Table.{stride, table_size, at}
 use Rattle.solve.specs.Answer.{IsFree}
 use Rattle.solve.proofs.Free.{told}
 use Rattle.pair.proofs.Outcome.{Sizes, enough, short, sizes, found_pair, found_none}
-use borrow.Author.Rules.{rules}
 use Rattle.pair.proofs.find_pair.Goals as goal
 
 pub eliminate-requires-clause-rows_le_longest : goal.eliminate-requires-clause-rows_le_longest
@@ -45,7 +44,7 @@ returns c =
     let s₀ : ℕ = (length c.args.row.now + c.args.code.k) / 2 in
     let s₁ : ℕ = c.radius-s1.result + 1 in
     let is_free : IsFree c.args.code.m (length c.args.row.now) (s₀ + s₁)
-      (at c.write_system.new.t) (at c.eliminate.new.t) c.in-Free.c = told _ _ _ _ _ c.in-Free.is c.eliminate.ensures.answers in
+    (at c.write_system.new.t) (at c.eliminate.new.t) c.in-Free.c = told _ _ _ _ _ c.in-Free.is c.eliminate.ensures.answers in
     found_pair c.requires.code c.requires.row c.radius-s1.ensures c.write_system.ensures is_free
     c.unknowns-q0.ensures c.unknowns-q1.ensures
 
@@ -59,7 +58,7 @@ unknowns-q0-requires c =
     let s₁ : ℕ = c.radius-s1.result + 1 in
     let fitting : Sizes (length c.args.row.now) s₀ s₁ = sizes c.requires.code c.requires.row c.radius-s1.ensures in
     let is_free : IsFree c.args.code.m (length c.args.row.now) (s₀ + s₁)
-      (at c.write_system.new.t) (at c.eliminate.new.t) c.in-Free.c = told _ _ _ _ _ c.in-Free.is c.eliminate.ensures.answers in
+    (at c.write_system.new.t) (at c.eliminate.new.t) c.in-Free.c = told _ _ _ _ _ c.in-Free.is c.eliminate.ensures.answers in
     let below : c.in-Free.c < stride = lt_of_lt_of_le is_free.below fitting.fits in
     let b = fitting in
     (c.eliminate.ensures.shape_2.size, below, omega arith, b.top₀)
@@ -70,7 +69,7 @@ unknowns-q1-requires c =
     let s₁ : ℕ = c.radius-s1.result + 1 in
     let fitting : Sizes (length c.args.row.now) s₀ s₁ = sizes c.requires.code c.requires.row c.radius-s1.ensures in
     let is_free : IsFree c.args.code.m (length c.args.row.now) (s₀ + s₁)
-      (at c.write_system.new.t) (at c.eliminate.new.t) c.in-Free.c = told _ _ _ _ _ c.in-Free.is c.eliminate.ensures.answers in
+    (at c.write_system.new.t) (at c.eliminate.new.t) c.in-Free.c = told _ _ _ _ _ c.in-Free.is c.eliminate.ensures.answers in
     let below : c.in-Free.c < stride = lt_of_lt_of_le is_free.below fitting.fits in
     let b = fitting in
     (c.eliminate.ensures.shape_2.size, below, b.fits, b.top₁)

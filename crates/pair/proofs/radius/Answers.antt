@@ -1,7 +1,6 @@
 -- `pair::radius` meets its contract.
 use mathlib.Core.Path.{refl}
 use Rattle.defs.specs.Distance.{radius}
-use borrow.Author.Rules.{rules}
 use Rattle.pair.proofs.radius.Goals as goal
 
 pub returns : goal.returns

@@ -1,5 +1,5 @@
 -- `pair::unknowns` meets its contract.
-use Prim.Native.Nat.{ℕ, ◌+◌, ◌≤◌, ◌-◌}
+use Prim.Native.Nat.{ℕ, ◌+◌}
 use mathlib.Core.Path.{◌≡◌, ap, ◌∙◌}
 use native.Mathlib.Omega.{arith}
 use lib.ListN.{take, drop}
@@ -12,7 +12,6 @@ use Rattle.code.specs.Checked.{zeros}
 use Rattle.code.proofs.Outcome.{length_zeros}
 use Rattle.solve.specs.Table.{at}
 use Rattle.solve.specs.System.{free}
-use borrow.Author.Rules.{rules}
 use Rattle.pair.proofs.unknowns.Goals as goal
 
 pub loop-a-init : goal.loop-a-init

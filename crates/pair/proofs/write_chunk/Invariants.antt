@@ -1,10 +1,7 @@
 -- `pair::write_chunk` meets its contract.
 use Prim.Native.Nat.{ℕ, ◌≤◌, ◌-◌}
 use mathlib.Core.List.{List}
-use native.Mathlib.Omega.{arith}
 use Rattle.pair.specs.Fill.{look, Chunk}
-use Rattle.pair.proofs.Chunks.{chunk_first, chunk_more, chunk_all}
-use borrow.Author.Rules.{rules}
 use Rattle.pair.proofs.write_chunk.Given as goal
 
 abbrev pub invariant-loop-b : goal.invariant-loop-b

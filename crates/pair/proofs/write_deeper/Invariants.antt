@@ -1,15 +1,9 @@
 -- `pair::write_deeper` meets its contract.
 use Prim.Native.Nat.{◌+◌, ◌≤◌, ◌<◌, ◌-◌}
-use mathlib.Core.Path.{◌≡◌, sym, ap, ap₂, ◌∙◌}
-use native.Mathlib.Omega.{arith}
+use mathlib.Core.Path.{◌≡◌}
 use lib.ListN.{get_or}
-use Rattle.defs.specs.Field.{add}
-use Rattle.theory.proofs.Order.{eq_lt}
-use Rattle.theory.proofs.Field.{add_lt}
 use Rattle.pair.specs.Equation.{deeper}
 use Rattle.pair.specs.Fill.{look, Span}
-use Rattle.pair.proofs.Spans.{span_none, span_more, span_all, span_before, deeper_first, deeper_next}
-use borrow.Author.Rules.{rules}
 use Rattle.pair.proofs.write_deeper.Given as goal
 
 abbrev pub invariant-loop-a : goal.invariant-loop-a

@@ -1,11 +1,7 @@
 -- `pair::write_depths` meets its contract.
 use Prim.Native.Nat.{◌≤◌, ◌-◌, ℕ}
 use mathlib.Core.List.{List}
-use native.Mathlib.Omega.{arith}
-use Rattle.field.specs.Arithmetic.{Products}
 use Rattle.pair.specs.Fill.{Powers}
-use Rattle.pair.proofs.Depths.{all_bytes, powers_first, powers_more, powers_all}
-use borrow.Author.Rules.{rules}
 use Rattle.pair.proofs.write_depths.Given as goal
 
 abbrev pub invariant-loop-j : goal.invariant-loop-j

@@ -1,11 +1,8 @@
 -- `pair::write_powers` meets its contract.
 use Prim.Native.Nat.{◌≤◌, ◌<◌, ◌-◌}
-use mathlib.Core.Path.{◌≡◌, ap, sym, ◌∙◌}
-use native.Mathlib.Omega.{arith}
+use mathlib.Core.Path.{◌≡◌}
 use Rattle.pair.specs.Equation.{power_at}
 use Rattle.pair.specs.Fill.{look, Span}
-use Rattle.pair.proofs.Spans.{span_none, span_more, span_all, power_first, power_next}
-use borrow.Author.Rules.{rules}
 use Rattle.pair.proofs.write_powers.Given as goal
 
 abbrev pub invariant-loop-a : goal.invariant-loop-a

@@ -1,17 +1,12 @@
 -- `pair::write_system` meets its contract.
-use Prim.Native.Nat.{ℕ, ◌+◌, ◌*◌, ◌≤◌, ◌-◌}
-use mathlib.Core.Path.{◌≡◌, ◌∙◌}
+use Prim.Native.Nat.{◌+◌, ◌*◌, ◌≤◌}
+use mathlib.Core.Path.{◌∙◌}
 use native.Mathlib.Omega.{arith}
-use lib.ListN.{length, get_or}
+use lib.ListN.{length}
 use Rattle.theory.specs.Limits.{Numbers}
 use Rattle.theory.proofs.Order.{eq_lt}
-use Rattle.theory.proofs.Limits.{count_small}
-use Rattle.code.specs.Checked.{points_of}
-use Rattle.solve.specs.Table.{stride}
-use Rattle.pair.specs.Fill.{System}
 use Rattle.code.proofs.Known.{code_numbers, code_symbols, code_point}
-use Rattle.pair.proofs.Systems.{zero_shape, chunk_fits, chunk_next, chunk_symbols, system_none, system_more, system_all}
-use borrow.Author.Rules.{rules}
+use Rattle.pair.proofs.Systems.{zero_shape, chunk_fits, chunk_next, chunk_symbols, system_none, system_more}
 use Rattle.pair.proofs.write_system.Goals as goal
 
 pub chunk_of-chunk-requires : goal.chunk_of-chunk-requires
@@ -38,13 +33,13 @@ write_chunk-requires-clause-point_bound c =
     let numbers : Numbers c.args.code.m c.args.code.r c.args.code.k c.args.code.count = code_numbers c.requires.code in
     let ends : c.loop-i.p + c.args.code.r ≤ c.args.code.r * c.args.code.count = chunk_fits _ _ _ _ c.loop-i.invariant.1 c.loop-i-test.true in
     let al = c.loop-i in (
-            eq_lt (code_point c.requires.code al.i c.loop-i-test.true) (code_symbols c.requires.code al.i),
-            numbers.r_pos,
-            numbers.r_top,
-            omega (arith, ends, numbers.row_top),
-            c.requires.t_len.1,
-            c.requires.t_len.2,
-          )
+      eq_lt (code_point c.requires.code al.i c.loop-i-test.true) (code_symbols c.requires.code al.i),
+      numbers.r_pos,
+      numbers.r_top,
+      omega (arith, ends, numbers.row_top),
+      c.requires.t_len.1,
+      c.requires.t_len.2,
+    )
 
 pub write_chunk-requires-clause-symbols : goal.write_chunk-requires-clause-symbols
 write_chunk-requires-clause-symbols c = let al = c.loop-i in chunk_symbols _ _ _ c.args.row.now c.chunk_of-chunk.ensures c.requires.row.symbols

@@ -1,17 +1,10 @@
 -- `pair::write_system` meets its contract.
-use Prim.Native.Nat.{ℕ, ◌+◌, ◌*◌, ◌≤◌, ◌-◌}
-use mathlib.Core.Path.{◌≡◌, ◌∙◌}
-use native.Mathlib.Omega.{arith}
-use lib.ListN.{length, get_or}
-use Rattle.theory.specs.Limits.{Numbers}
-use Rattle.theory.proofs.Order.{eq_lt}
-use Rattle.theory.proofs.Limits.{count_small}
+use Prim.Native.Nat.{ℕ, ◌*◌, ◌≤◌, ◌-◌}
+use mathlib.Core.Path.{◌≡◌}
+use lib.ListN.{get_or}
 use Rattle.code.specs.Checked.{points_of}
 use Rattle.solve.specs.Table.{stride}
 use Rattle.pair.specs.Fill.{System}
-use Rattle.code.proofs.Known.{code_numbers, code_symbols, code_point}
-use Rattle.pair.proofs.Systems.{zero_shape, chunk_fits, chunk_next, chunk_symbols, system_none, system_more, system_all}
-use borrow.Author.Rules.{rules}
 use Rattle.pair.proofs.write_system.Given as goal
 
 abbrev pub invariant-loop-i : goal.invariant-loop-i

@@ -1,5 +1,4 @@
 -- `plq_decode`: what decode answers is small enough to be packed.
-use borrow.Author.Rules.{rules}
 use Rattle.plq.proofs.Small.{decoded_small}
 use Rattle.plq.proofs.plq_decode.Goals as goal
 

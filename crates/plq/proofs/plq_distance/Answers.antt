@@ -1,7 +1,4 @@
 -- `plq_distance`: a distance is small enough to be packed.
-use borrow.Author.Rules.{rules}
-use mathlib.Core.Path.{ap, ◌∙◌}
-use Rattle.plq.specs.Packed.{packed}
 use Rattle.plq.proofs.Small.{distance_detail}
 use Rattle.plq.proofs.plq_distance.Goals as goal
 

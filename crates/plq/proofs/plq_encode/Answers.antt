@@ -1,5 +1,4 @@
 -- `plq_encode`: what encode answers is small enough to be packed.
-use borrow.Author.Rules.{rules}
 use Rattle.plq.proofs.Small.{encoded_small}
 use Rattle.plq.proofs.plq_encode.Goals as goal
 

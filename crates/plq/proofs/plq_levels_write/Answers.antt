@@ -1,5 +1,4 @@
 -- `plq_levels_write`: what levels_write answers is small enough to be packed.
-use borrow.Author.Rules.{rules}
 use Rattle.plq.proofs.Small.{levels_small}
 use Rattle.plq.proofs.plq_levels_write.Goals as goal
 

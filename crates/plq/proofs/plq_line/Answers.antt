@@ -1,5 +1,4 @@
 -- `plq_line`: what line answers is small enough to be packed.
-use borrow.Author.Rules.{rules}
 use Rattle.plq.proofs.Small.{lined_small}
 use Rattle.plq.proofs.plq_line.Goals as goal
 

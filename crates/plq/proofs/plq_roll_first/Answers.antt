@@ -1,13 +1,9 @@
 -- `plq_roll_first`: a number and a slip's size are small enough to be packed.
 use Prim.Native.Nat.{◌≤◌}
-use mathlib.Core.Path.{ap, ◌∙◌}
 use native.Mathlib.Omega.{arith}
-use Rattle.defs.specs.Refusal.{number}
 use Rattle.defs.specs.Slip.{head_bits, slip_size}
-use Rattle.defs.specs.declared.Answer.{Answer}
 use Rattle.roll.proofs.Parts.{first_top}
 use Rattle.plq.proofs.Small.{number_small}
-use borrow.Author.Rules.{rules}
 use Rattle.plq.proofs.plq_roll_first.Goals as goal
 
 pub overflow_add-result : goal.overflow_add-result

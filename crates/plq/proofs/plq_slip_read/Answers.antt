@@ -1,5 +1,4 @@
 -- `plq_slip_read`: each part of the slip reader's answer has room in a byte.
-use borrow.Author.Rules.{rules}
 use Rattle.plq.proofs.Small.{read_narrow}
 use Rattle.plq.proofs.plq_slip_read.Goals as goal
 

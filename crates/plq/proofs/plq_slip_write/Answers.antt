@@ -1,5 +1,4 @@
 -- `plq_slip_write`: what the slip writer answers is small enough to be packed.
-use borrow.Author.Rules.{rules}
 use Rattle.plq.proofs.Small.{written_small}
 use Rattle.plq.proofs.plq_slip_write.Goals as goal
 

@@ -1,5 +1,4 @@
 -- `plq_to_new`: what the call answers is small enough to be packed.
-use borrow.Author.Rules.{rules}
 use Rattle.plq.proofs.Small.{turned_small}
 use Rattle.plq.proofs.plq_to_new.Goals as goal
 

@@ -1,5 +1,4 @@
 -- `quotient::divide_at` meets its contract: the coefficient is what the top of rem asks.
-use borrow.Author.Rules.{rules}
 use Rattle.quotient.proofs.Division.{divided}
 use Rattle.quotient.proofs.divide_at.Goals as goal
 

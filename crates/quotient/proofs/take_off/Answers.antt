@@ -1,9 +1,7 @@
 -- `quotient::take_off` meets its contract: the coefficients before i are taken off.
-use Prim.Native.Nat.{◌≤◌, ◌-◌}
 use borrow.Author.Rules.{rules}
 use native.Mathlib.Omega.{arith}
-use Rattle.quotient.specs.Quotient.{TakenOff}
-use Rattle.quotient.proofs.Division.{off_none, off_more, off_all}
+use Rattle.quotient.proofs.Division.{off_more}
 use Rattle.quotient.proofs.take_off.Goals as goal
 
 pub loop-i-preserved : goal.loop-i-preserved

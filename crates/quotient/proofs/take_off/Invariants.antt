@@ -1,9 +1,6 @@
 -- `quotient::take_off` meets its contract: the coefficients before i are taken off.
 use Prim.Native.Nat.{◌≤◌, ◌-◌}
-use borrow.Author.Rules.{rules}
-use native.Mathlib.Omega.{arith}
 use Rattle.quotient.specs.Quotient.{TakenOff}
-use Rattle.quotient.proofs.Division.{off_none, off_more, off_all}
 use Rattle.quotient.proofs.take_off.Given as goal
 
 abbrev pub invariant-loop-i : goal.invariant-loop-i

@@ -1,11 +1,7 @@
 -- `quotient::terms` meets its contract: from the top down, the coefficients passed are 0.
 use Prim.Native.Nat.{◌≤◌}
-use borrow.Author.Rules.{rules}
-use native.Mathlib.Omega.{arith}
 use lib.ListN.{length}
 use Rattle.theory.specs.Vanish.{Deg}
-use Rattle.theory.proofs.Multiply.{deg_length}
-use Rattle.quotient.proofs.Division.{zeros_down}
 use Rattle.quotient.proofs.terms.Given as goal
 
 abbrev pub invariant-loop-c : goal.invariant-loop-c

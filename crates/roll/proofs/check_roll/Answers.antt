@@ -1,5 +1,4 @@
 -- `check_roll` meets its contract: the empty roll apart from the others.
-use borrow.Author.Rules.{rules}
 use mathlib.Core.Path.{◌∙◌}
 use Rattle.roll.proofs.Parts.{empty_fine, others_first}
 use Rattle.roll.proofs.check_roll.Goals as goal

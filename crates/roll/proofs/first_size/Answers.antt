@@ -1,5 +1,4 @@
 -- `first_size` meets its contract: the header's size where the roll begins with a slip.
-use borrow.Author.Rules.{rules}
 use mathlib.Core.Path.{sym, ap, ◌∙◌}
 use lib.ListN.{length}
 use Rattle.roll.proofs.Parts.{none_found, first_long}

@@ -1,5 +1,4 @@
 -- `roll_answer` meets its contract: the answer is that of the checks.
-use borrow.Author.Rules.{rules}
 use mathlib.Core.Path.{sym, ◌∙◌}
 use Rattle.defs.specs.Refusal.{answer}
 use Rattle.roll.proofs.roll_answer.Goals as goal

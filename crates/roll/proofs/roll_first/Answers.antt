@@ -1,7 +1,4 @@
 -- `roll_first` meets its contract: so many bytes are the first part.
-use borrow.Author.Rules.{rules}
-use Prim.Native.Nat.{ℕ}
-use mathlib.Core.List.{List}
 use mathlib.Core.Path.{ap, sym, ◌∙◌}
 use native.Mathlib.Omega.{arith}
 use lib.ListN.{take}

@@ -1,5 +1,5 @@
 -- `roll_rest` meets its contract: what is behind so many bytes.
-use Prim.Native.Nat.{◌-◌, ◌≤◌}
+use Prim.Native.Nat.{◌-◌}
 use mathlib.Core.Path.{ap, ◌∙◌}
 use lib.ListN.{length, drop, length-drop}
 use lib.Seq.{take_all}

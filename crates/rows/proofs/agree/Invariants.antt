@@ -1,12 +1,8 @@
 -- `agree` meets its contract: s is the depth to which the first j symbols agree.
-use Prim.Native.Nat.{ℕ, ◌+◌, ◌-◌, ◌≤◌}
-use mathlib.Core.Path.{◌≡◌, ap, sym, ◌∙◌}
-use mathlib.Core.Logic.{⊎_elim}
-use native.Mathlib.Omega.{arith}
+use Prim.Native.Nat.{◌-◌, ◌≤◌}
+use mathlib.Core.Path.{◌≡◌}
 use lib.ListN.{get_or}
 use Rattle.defs.specs.Distance.{agree}
-use Rattle.rows.proofs.Chunks.{agree_none, agree_more, agree_stops, agree_stays}
-use borrow.Author.Rules.{rules}
 use Rattle.rows.proofs.agree.Given as goal
 
 abbrev pub invariant-loop-j : goal.invariant-loop-j

@@ -1,6 +1,5 @@
 -- `check_lengths` meets its contract: each way out by its lemma.
 use Rattle.rows.proofs.Outcome.{no_depth, too_deep, not_same, empty, too_long, not_whole, lengths_fine}
-use borrow.Author.Rules.{rules}
 use Rattle.rows.proofs.check_lengths.Goals as goal
 
 pub returns : goal.returns

@@ -3,7 +3,6 @@ use native.Mathlib.Omega.{arith}
 use lib.ListN.{get_or}
 use Rattle.theory.proofs.Agree.{agree_le}
 use Rattle.rows.proofs.Measure.{damage_found}
-use borrow.Author.Rules.{rules}
 use Rattle.rows.proofs.chunk_damage.Goals as goal
 
 pub overflow_sub-result : goal.overflow_sub-result

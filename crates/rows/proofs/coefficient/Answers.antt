@@ -1,10 +1,9 @@
 -- `coefficient` meets its contract: the terms below the power i are added.
-use Prim.Native.Nat.{◌+◌, ◌-◌, ◌<◌}
+use Prim.Native.Nat.{◌-◌}
 use native.Mathlib.Omega.{arith}
 use lib.ListN.{get_or}
-use Rattle.rows.specs.Tables.{places, Exponent}
-use Rattle.rows.proofs.Hasse.{Added, added_first, place_fits, added_more, added_last}
-use borrow.Author.Rules.{rules}
+use Rattle.rows.specs.Tables.{Exponent}
+use Rattle.rows.proofs.Hasse.{added_first, added_more, added_last}
 use Rattle.rows.proofs.coefficient.Goals as goal
 
 pub loop-i-init : goal.loop-i-init

@@ -1,13 +1,10 @@
 -- `distance` meets its contract: each way out by its lemma.
-use Prim.Native.Nat.{ℕ}
-use mathlib.Core.List.{List}
 use mathlib.Core.Path.{◌≡◌, sym, ◌∙◌}
 use native.Mathlib.Omega.{arith}
 use lib.ListN.{length}
 use Rattle.defs.specs.Encode.{distance_verdict}
 use Rattle.defs.specs.declared.Verdict.TheVariants.{Fine}
 use Rattle.rows.proofs.Outcome.{distance_refused, distance_done, depth_pos, distance_rows}
-use borrow.Author.Rules.{rules}
 use Rattle.rows.proofs.distance.Goals as goal
 
 pub nonzero_div-a : goal.nonzero_div-a

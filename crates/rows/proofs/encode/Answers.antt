@@ -7,7 +7,6 @@ use Rattle.defs.specs.declared.Verdict.TheVariants.{Fine}
 use Rattle.theory.proofs.Limits.{inside_known}
 use Rattle.code.proofs.Outcome.{Passed, verdict_is, code_passed}
 use Rattle.rows.proofs.Outcome.{encode_refused, encode_message, encode_row, encode_symbol, encode_done, writable, same_row}
-use borrow.Author.Rules.{rules}
 use Rattle.rows.proofs.encode.Goals as goal
 
 pub check_symbols-s-requires : goal.check_symbols-s-requires

@@ -1,13 +1,8 @@
 -- `evaluate` meets its contract: the first j coefficients are written.
-use Prim.Native.Nat.{◌-◌, ◌≤◌}
-use mathlib.Core.Path.{◌≡◌, ◌∙◌}
+use mathlib.Core.Path.{◌∙◌}
 use native.Mathlib.Omega.{arith}
-use lib.ListN.{get_or}
-use Rattle.defs.specs.Row.{coefficient}
-use Rattle.field.specs.Arithmetic.{Logarithm}
-use Rattle.code.proofs.Chunks.{begun, chunk_first, chunk_more, chunk_last}
+use Rattle.code.proofs.Chunks.{chunk_first, chunk_more, chunk_last}
 use Rattle.rows.proofs.Hasse.{zero_chunk}
-use borrow.Author.Rules.{rules}
 use Rattle.rows.proofs.evaluate.Goals as goal
 
 pub loop-j-init : goal.loop-j-init

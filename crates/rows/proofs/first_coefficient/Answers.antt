@@ -1,10 +1,6 @@
 -- `first_coefficient` meets its contract: the terms and the powers below i are done.
-use Prim.Native.Nat.{◌+◌, ◌-◌, ◌<◌}
 use native.Mathlib.Omega.{arith}
-use lib.ListN.{length, get_or}
-use Rattle.rows.specs.Tables.{places}
-use Rattle.rows.proofs.PointPowers.{Walked, walked_first, walk_fits, walked_more, walked_sum, walked_table}
-use borrow.Author.Rules.{rules}
+use Rattle.rows.proofs.PointPowers.{walked_first, walked_more, walked_sum}
 use Rattle.rows.proofs.first_coefficient.Goals as goal
 
 pub loop-i-init : goal.loop-i-init

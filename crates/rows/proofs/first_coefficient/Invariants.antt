@@ -1,10 +1,7 @@
 -- `first_coefficient` meets its contract: the terms and the powers below i are done.
-use Prim.Native.Nat.{◌+◌, ◌-◌, ◌<◌}
-use native.Mathlib.Omega.{arith}
-use lib.ListN.{length, get_or}
-use Rattle.rows.specs.Tables.{places}
-use Rattle.rows.proofs.PointPowers.{Walked, walked_first, walk_fits, walked_more, walked_sum, walked_table}
-use borrow.Author.Rules.{rules}
+use Prim.Native.Nat.{◌-◌}
+use lib.ListN.{length}
+use Rattle.rows.proofs.PointPowers.{Walked}
 use Rattle.rows.proofs.first_coefficient.Given as goal
 
 abbrev pub invariant-loop-i : goal.invariant-loop-i

@@ -1,10 +1,6 @@
 -- `message_logs` meets its contract: the logarithms of the first i symbols are written.
-use Prim.Native.Nat.{◌-◌, ◌<◌}
 use mathlib.Core.Path.{refl}
-use native.Mathlib.Omega.{arith}
-use lib.ListN.{length, get_or}
-use Rattle.rows.proofs.Lookup.{Noted, noted_first, noted_more, noted_last}
-use borrow.Author.Rules.{rules}
+use Rattle.rows.proofs.Lookup.{noted_first, noted_more, noted_last}
 use Rattle.rows.proofs.message_logs.Goals as goal
 
 pub loop-i-init : goal.loop-i-init

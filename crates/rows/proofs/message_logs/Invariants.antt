@@ -1,10 +1,7 @@
 -- `message_logs` meets its contract: the logarithms of the first i symbols are written.
-use Prim.Native.Nat.{◌-◌, ◌<◌}
-use mathlib.Core.Path.{refl}
-use native.Mathlib.Omega.{arith}
-use lib.ListN.{length, get_or}
-use Rattle.rows.proofs.Lookup.{Noted, noted_first, noted_more, noted_last}
-use borrow.Author.Rules.{rules}
+use Prim.Native.Nat.{◌-◌}
+use lib.ListN.{length}
+use Rattle.rows.proofs.Lookup.{Noted}
 use Rattle.rows.proofs.message_logs.Given as goal
 
 abbrev pub invariant-loop-i : goal.invariant-loop-i

@@ -1,10 +1,6 @@
 -- `powers` meets its contract: the powers below i are written, and x is the next.
-use Prim.Native.Nat.{◌-◌, ◌^◌, ◌≤◌}
-use mathlib.Core.Path.{◌≡◌}
-use native.Mathlib.Omega.{arith}
-use Rattle.theory.proofs.Generator.{one_lt}
-use Rattle.rows.proofs.Lookup.{Powered, order_top, powers_first, powers_more, powers_last}
-use borrow.Author.Rules.{rules}
+use Prim.Native.Nat.{◌-◌}
+use Rattle.rows.proofs.Lookup.{Powered}
 use Rattle.rows.proofs.powers.Given as goal
 
 abbrev pub invariant-loop-i : goal.invariant-loop-i

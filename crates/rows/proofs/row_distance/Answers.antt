@@ -1,12 +1,8 @@
 -- `row_distance` meets its contract: the damage of the first i chunks is added up.
-use Prim.Native.Nat.{ℕ, ◌*◌, ◌-◌, ◌≤◌}
-use mathlib.Core.List.{List}
-use mathlib.Core.Path.{◌≡◌, ap, ◌∙◌}
+use Prim.Native.Nat.{◌≤◌}
 use native.Mathlib.Omega.{arith}
 use Rattle.defs.specs.Limits.{deepest}
-use Rattle.defs.specs.Distance.{distance}
-use Rattle.rows.proofs.Measure.{rows_chunk, damage_top, distance_none, distance_more}
-use borrow.Author.Rules.{rules}
+use Rattle.rows.proofs.Measure.{damage_top, distance_none, distance_more}
 use Rattle.rows.proofs.row_distance.Goals as goal
 
 pub loop-i-init : goal.loop-i-init

@@ -1,12 +1,8 @@
 -- `row_distance` meets its contract: the damage of the first i chunks is added up.
-use Prim.Native.Nat.{ℕ, ◌*◌, ◌-◌, ◌≤◌}
-use mathlib.Core.List.{List}
-use mathlib.Core.Path.{◌≡◌, ap, ◌∙◌}
-use native.Mathlib.Omega.{arith}
+use Prim.Native.Nat.{◌*◌, ◌-◌, ◌≤◌}
+use mathlib.Core.Path.{◌≡◌}
 use Rattle.defs.specs.Limits.{deepest}
 use Rattle.defs.specs.Distance.{distance}
-use Rattle.rows.proofs.Measure.{rows_chunk, damage_top, distance_none, distance_more}
-use borrow.Author.Rules.{rules}
 use Rattle.rows.proofs.row_distance.Given as goal
 
 abbrev pub invariant-loop-i : goal.invariant-loop-i

@@ -1,11 +1,9 @@
 -- `store` meets its contract: the first j symbols are written.
-use Prim.Native.Nat.{ℕ, ◌-◌, ◌≤◌}
-use mathlib.Core.Path.{◌≡◌, ap, ◌∙◌, refl}
+use Prim.Native.Nat.{ℕ}
+use mathlib.Core.Path.{refl}
 use native.Mathlib.Omega.{arith}
-use lib.ListN.{length, get_or, length-set}
-use Rattle.theory.specs.Fill.{filled}
+use lib.ListN.{get_or, length-set}
 use Rattle.theory.proofs.Fill.{filled_none, filled_more}
-use borrow.Author.Rules.{rules}
 use Rattle.rows.proofs.store.Goals as goal
 
 pub loop-j-init : goal.loop-j-init

@@ -1,11 +1,8 @@
 -- `store` meets its contract: the first j symbols are written.
-use Prim.Native.Nat.{ℕ, ◌-◌, ◌≤◌}
-use mathlib.Core.Path.{◌≡◌, ap, ◌∙◌, refl}
-use native.Mathlib.Omega.{arith}
-use lib.ListN.{length, get_or, length-set}
+use Prim.Native.Nat.{◌-◌, ◌≤◌}
+use mathlib.Core.Path.{◌≡◌}
+use lib.ListN.{length, get_or}
 use Rattle.theory.specs.Fill.{filled}
-use Rattle.theory.proofs.Fill.{filled_none, filled_more}
-use borrow.Author.Rules.{rules}
 use Rattle.rows.proofs.store.Given as goal
 
 abbrev pub invariant-loop-j : goal.invariant-loop-j

@@ -1,15 +1,11 @@
 -- `write_row` meets its contract: the chunks of the first i points are written.
-use Prim.Native.Nat.{◌+◌, ◌-◌, ◌<◌, ◌≤◌}
-use mathlib.Core.Path.{◌≡◌, refl}
+use Prim.Native.Nat.{◌+◌, ◌≤◌}
+use mathlib.Core.Path.{refl}
 use native.Mathlib.Omega.{arith}
-use lib.ListN.{length, take}
-use Rattle.defs.specs.Limits.{longest}
+use lib.ListN.{length}
 use Rattle.theory.specs.Limits.{Numbers}
-use Rattle.theory.proofs.Limits.{count_small}
 use Rattle.code.proofs.Known.{code_numbers}
-use Rattle.rows.specs.Chunk.{Writable}
-use Rattle.rows.proofs.Writing.{Progress, progress_first, short, room_top, chunk_fits, evaluable, written_more, written_last}
-use borrow.Author.Rules.{rules}
+use Rattle.rows.proofs.Writing.{progress_first, short, chunk_fits, evaluable, written_more}
 use Rattle.rows.proofs.write_row.Goals as goal
 
 pub evaluate-chunk-requires-clause-evaluable : goal.evaluate-chunk-requires-clause-evaluable

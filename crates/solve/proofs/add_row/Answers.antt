@@ -1,10 +1,9 @@
 -- `solve::add_row` meets its contract.
-use Prim.Native.Nat.{ℕ, ◌+◌, ◌*◌, ◌-◌, ◌≤◌}
+use Prim.Native.Nat.{ℕ, ◌+◌, ◌*◌}
 use native.Mathlib.Omega.{arith}
-use borrow.Author.Rules.{rules}
 use Rattle.defs.specs.Field.{add}
 use Rattle.solve.specs.Table.{stride}
-use Rattle.solve.proofs.Writes.{byte, Adds, wrote_none, adds_more, looked_up, wrote_added}
+use Rattle.solve.proofs.Writes.{adds_more, looked_up, wrote_added}
 use Rattle.solve.proofs.add_row.Goals as goal
 
 pub loop-j-preserved : goal.loop-j-preserved

@@ -1,10 +1,7 @@
 -- `solve::add_row` meets its contract.
-use Prim.Native.Nat.{ℕ, ◌+◌, ◌*◌, ◌-◌, ◌≤◌}
-use native.Mathlib.Omega.{arith}
-use borrow.Author.Rules.{rules}
-use Rattle.defs.specs.Field.{add}
+use Prim.Native.Nat.{◌+◌, ◌*◌, ◌-◌, ◌≤◌}
 use Rattle.solve.specs.Table.{stride}
-use Rattle.solve.proofs.Writes.{byte, Adds, wrote_none, adds_more, looked_up, wrote_added}
+use Rattle.solve.proofs.Writes.{Adds}
 use Rattle.solve.proofs.add_row.Given as goal
 
 abbrev pub invariant-loop-j : goal.invariant-loop-j

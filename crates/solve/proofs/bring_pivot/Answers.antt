@@ -1,9 +1,7 @@
 -- `solve::bring_pivot` meets its contract.
 use mathlib.Core.Path.{sym}
 use native.Mathlib.Omega.{arith}
-use borrow.Author.Rules.{rules}
 use Rattle.defs.specs.Field.{add}
-use Rattle.theory.proofs.Field.{add_lt}
 use Rattle.theory.proofs.Generator.{one_lt}
 use Rattle.solve.proofs.Steps.{alike_trans, added_alike, scaled_alike}
 use Rattle.solve.proofs.Columns.{stairs_one, leads_here, leads_added}
@@ -13,8 +11,8 @@ pub add_row-requires-2-clause-by_index : goal.add_row-requires-2-clause-by_index
 unfolding add
 add_row-requires-2-clause-by_index c = let pre = c.requires in
     let bounds = pre.p_lt_rows in λ j l.
-            (stairs_one _ _ _ _ bounds.2 _ _ pre.stairs pre.pivot bounds.0 (pre.shape.symbols _) c.inverse-a.ensures.unit c.add_row.ensures.added
-            ).none _ j bounds.0 l (omega (arith, pre.pivot.from))
+    (stairs_one _ _ _ _ bounds.2 _ _ pre.stairs pre.pivot bounds.0 (pre.shape.symbols _) c.inverse-a.ensures.unit c.add_row.ensures.added
+    ).none _ j bounds.0 l (omega (arith, pre.pivot.from))
 
 pub returns-clause-alike : goal.returns-clause-alike
 unfolding add

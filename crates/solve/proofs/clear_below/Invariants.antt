@@ -1,15 +1,8 @@
 -- `solve::clear_below` meets its contract.
-use mathlib.Core.Path.{refl}
-use mathlib.Core.Logic.{⊎_elim}
 use Prim.Native.Nat.{◌-◌, ◌<◌, ◌≤◌}
-use native.Mathlib.Omega.{arith}
-use borrow.Author.Rules.{rules}
 use Rattle.solve.specs.Table.{at, Shape}
 use Rattle.solve.specs.Step.{Alike, Leads}
 use Rattle.solve.specs.Multiples.{Multiples}
-use Rattle.solve.proofs.Steps.{alike_refl, alike_trans, added_alike}
-use Rattle.solve.proofs.Columns.{leads_skip, leads_more, leads_all}
-use Rattle.solve.proofs.Sixteens.{made_same}
 use Rattle.solve.proofs.clear_below.Given as goal
 
 abbrev pub invariant-loop-i : goal.invariant-loop-i

@@ -1,18 +1,14 @@
 -- `solve::eliminate` meets its contract.
-use Prim.Native.Nat.{◌-◌, ◌<◌, ◌≤◌}
+use Prim.Native.Nat.{◌<◌}
 use native.Mathlib.Omega.{arith}
-use borrow.Author.Rules.{rules}
 use Rattle.theory.proofs.Generator.{one_lt}
-use Rattle.solve.specs.Table.{at, Shape}
-use Rattle.solve.specs.Step.{Alike, Stairs}
-use Rattle.solve.proofs.Steps.{alike_refl, alike_trans}
+use Rattle.solve.proofs.Steps.{alike_trans}
 use Rattle.solve.proofs.Free.{answer_free, answer_full}
 use Rattle.solve.proofs.eliminate.Goals as goal
 
 pub loop-c-preserved : goal.loop-c-preserved
 loop-c-preserved c =
-    let within : c.find_pivot-p.result < c.args.rows = omega (arith, c.find_pivot-p.ensures.to, c.if-p-rows.false) in
-    (
+    let within : c.find_pivot-p.result < c.args.rows = omega (arith, c.find_pivot-p.ensures.to, c.if-p-rows.false) in (
       omega arith,
       omega (arith, c.find_pivot-p.ensures.from, within),
       c.clear_below.ensures.shape_2,
@@ -27,4 +23,4 @@ returns-clause-answers c = let v = c.loop-c.invariant in
 pub returns-then-p-rows-clause-answers : goal.returns-then-p-rows-clause-answers
 returns-then-p-rows-clause-answers c = let v = c.loop-c.invariant in
     let S = c.substitute.ensures.shape_2 in answer_free _ _ _ v.3 _ _ c.loop-c-test.true v.4 c.find_pivot-p.ensures c.if-p-rows.true c.substitute.ensures.back (one_lt _ S.width)
-          (λ i j. S.symbols _)
+    (λ i j. S.symbols _)

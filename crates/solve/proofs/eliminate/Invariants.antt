@@ -1,12 +1,7 @@
 -- `solve::eliminate` meets its contract.
-use Prim.Native.Nat.{◌-◌, ◌<◌, ◌≤◌}
-use native.Mathlib.Omega.{arith}
-use borrow.Author.Rules.{rules}
-use Rattle.theory.proofs.Generator.{one_lt}
+use Prim.Native.Nat.{◌-◌, ◌≤◌}
 use Rattle.solve.specs.Table.{at, Shape}
 use Rattle.solve.specs.Step.{Alike, Stairs}
-use Rattle.solve.proofs.Steps.{alike_refl, alike_trans}
-use Rattle.solve.proofs.Free.{answer_free, answer_full}
 use Rattle.solve.proofs.eliminate.Given as goal
 
 abbrev pub invariant-loop-c : goal.invariant-loop-c

@@ -1,9 +1,6 @@
 -- `solve::find_pivot` meets its contract.
 use mathlib.Core.Path.{◌≡◌}
 use Prim.Native.Nat.{ℕ, ◌-◌, ◌<◌, ◌≤◌}
-use native.Mathlib.Omega.{arith}
-use borrow.Author.Count.{below_more}
-use borrow.Author.Rules.{rules}
 use Rattle.solve.specs.Table.{at}
 use Rattle.solve.proofs.find_pivot.Given as goal
 

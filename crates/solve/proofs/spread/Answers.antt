@@ -1,10 +1,9 @@
 -- `solve::spread` meets its contract.
-use Prim.Native.Nat.{ℕ, ◌+◌, ◌*◌, ◌-◌, ◌≤◌}
+use Prim.Native.Nat.{ℕ, ◌+◌, ◌*◌}
 use native.Mathlib.Omega.{arith}
-use borrow.Author.Rules.{rules}
 use Rattle.defs.specs.Field.{add}
-use Rattle.solve.specs.Table.{stride, at}
-use Rattle.solve.proofs.Writes.{byte, Adds, wrote_none, adds_more, looked_up, wrote_spread}
+use Rattle.solve.specs.Table.{stride}
+use Rattle.solve.proofs.Writes.{adds_more, looked_up, wrote_spread}
 use Rattle.solve.proofs.spread.Goals as goal
 
 pub loop-i-preserved : goal.loop-i-preserved

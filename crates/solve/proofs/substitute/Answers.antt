@@ -1,9 +1,7 @@
 -- `solve::substitute` meets its contract.
-use Prim.Native.Nat.{◌≤◌}
 use native.Mathlib.Omega.{arith}
 use borrow.Author.Rules.{rules}
-use Rattle.solve.specs.Table.{at, Shape}
-use Rattle.solve.proofs.Unknowns.{Backing, backing_first, backing_more, backing_all}
+use Rattle.solve.proofs.Unknowns.{backing_first, backing_more}
 use Rattle.solve.proofs.substitute.Goals as goal
 
 pub loop-k-init : goal.loop-k-init

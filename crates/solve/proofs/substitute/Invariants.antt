@@ -1,9 +1,7 @@
 -- `solve::substitute` meets its contract.
 use Prim.Native.Nat.{◌≤◌}
-use native.Mathlib.Omega.{arith}
-use borrow.Author.Rules.{rules}
 use Rattle.solve.specs.Table.{at, Shape}
-use Rattle.solve.proofs.Unknowns.{Backing, backing_first, backing_more, backing_all}
+use Rattle.solve.proofs.Unknowns.{Backing}
 use Rattle.solve.proofs.substitute.Given as goal
 
 abbrev pub invariant-loop-k : goal.invariant-loop-k

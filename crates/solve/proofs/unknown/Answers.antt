@@ -1,7 +1,6 @@
 -- `solve::unknown` meets its contract.
 use mathlib.Core.Path.{sym, ap, ◌∙◌}
 use native.Mathlib.Omega.{arith}
-use borrow.Author.Rules.{rules}
 use Rattle.solve.specs.System.{free}
 use Rattle.solve.proofs.Free.{free_below, free_here, free_past}
 use Rattle.solve.proofs.unknown.Goals as goal

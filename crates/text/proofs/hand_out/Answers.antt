@@ -1,6 +1,5 @@
 -- `hand_out` refuses a buffer that is too short and fills any other.
 use Rattle.text.proofs.Handing.{no_room, handed}
-use borrow.Author.Rules.{rules}
 use Rattle.text.proofs.hand_out.Goals as goal
 
 pub returns : goal.returns

@@ -1,5 +1,4 @@
 -- `check_edition` meets its contract: each way out by its lemma.
-use borrow.Author.Rules.{rules}
 use borrow.Author.Tests.{eq-eqb, ne_eqb}
 use Rattle.turn.proofs.Turning.{too_short, another, this_one}
 use Rattle.turn.proofs.check_edition.Goals as goal

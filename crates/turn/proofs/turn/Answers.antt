@@ -5,7 +5,6 @@ use native.Mathlib.Omega.{arith}
 use lib.Dec.{eqb}
 use lib.ListN.{length}
 use lib.Seq.{length-take-le}
-use borrow.Author.Rules.{rules}
 use Rattle.defs.specs.Read.{first_verdict_of, first_verdict}
 use Rattle.turn.proofs.Turning.{own_first, refused_edition, turned_refused, turned_no, row_small, points_lent, row_lent, turned_long, turned_written}
 use Rattle.turn.proofs.turn.Goals as goal

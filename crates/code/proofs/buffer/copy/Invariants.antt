@@ -1,12 +1,8 @@
 -- `code::buffer::copy` meets its contract: the first i bytes are written.
 use Prim.Native.Nat.{◌≤◌, ◌-◌}
 use mathlib.Core.Path.{◌≡◌}
-use borrow.Author.Rules.{rules}
-use native.Mathlib.Omega.{arith}
 use lib.ListN.{length, get_or}
 use Rattle.theory.specs.Fill.{filled}
-use Rattle.theory.proofs.Fill.{filled_none, filled_next, length_filled}
-use Rattle.code.proofs.Outcome.{copied}
 use Rattle.code.proofs.buffer.copy.Given as goal
 
 abbrev pub invariant-loop-i : goal.invariant-loop-i

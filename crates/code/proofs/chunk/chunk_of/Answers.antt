@@ -1,10 +1,7 @@
 -- `code::chunk::chunk_of` meets its contract: the first j symbols are copied.
-use Prim.Native.Nat.{◌+◌, ◌-◌, ◌≤◌}
-use mathlib.Core.Path.{◌≡◌, refl}
+use mathlib.Core.Path.{refl}
 use native.Mathlib.Omega.{arith}
-use lib.ListN.{get_or}
-use Rattle.code.proofs.Chunks.{begun, chunk_first, chunk_more, chunk_last}
-use borrow.Author.Rules.{rules}
+use Rattle.code.proofs.Chunks.{chunk_first, chunk_more, chunk_last}
 use Rattle.code.proofs.chunk.chunk_of.Goals as goal
 
 pub loop-j-init : goal.loop-j-init

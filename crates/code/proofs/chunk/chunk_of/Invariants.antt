@@ -1,10 +1,8 @@
 -- `code::chunk::chunk_of` meets its contract: the first j symbols are copied.
 use Prim.Native.Nat.{◌+◌, ◌-◌, ◌≤◌}
-use mathlib.Core.Path.{◌≡◌, refl}
-use native.Mathlib.Omega.{arith}
+use mathlib.Core.Path.{◌≡◌}
 use lib.ListN.{get_or}
-use Rattle.code.proofs.Chunks.{begun, chunk_first, chunk_more, chunk_last}
-use borrow.Author.Rules.{rules}
+use Rattle.code.proofs.Chunks.{begun}
 use Rattle.code.proofs.chunk.chunk_of.Given as goal
 
 abbrev pub invariant-loop-j : goal.invariant-loop-j

@@ -1,9 +1,5 @@
 -- `chunk_at` meets its contract: the last digits are written, and what is left of the level is the quotient.
-use Prim.Native.Nat.{◌-◌, ◌%◌, ◌<◌}
-use native.Mathlib.Nat.{mod-lt}
-use native.Mathlib.Omega.{arith}
-use borrow.Author.Rules.{rules}
-use Rattle.levels.proofs.Words.{Apart, apart_first, apart_more, apart_last}
+use Rattle.levels.proofs.Words.{apart_more, apart_last}
 use Rattle.levels.proofs.level.chunk_at.Goals as goal
 
 pub loop-done-preserved : goal.loop-done-preserved

@@ -1,9 +1,6 @@
 -- `chunk_at` meets its contract: the last digits are written, and what is left of the level is the quotient.
-use Prim.Native.Nat.{◌-◌, ◌%◌, ◌<◌}
-use native.Mathlib.Nat.{mod-lt}
-use native.Mathlib.Omega.{arith}
-use borrow.Author.Rules.{rules}
-use Rattle.levels.proofs.Words.{Apart, apart_first, apart_more, apart_last}
+use Prim.Native.Nat.{◌-◌}
+use Rattle.levels.proofs.Words.{Apart}
 use Rattle.levels.proofs.level.chunk_at.Given as goal
 
 abbrev pub invariant-loop-done : goal.invariant-loop-done

@@ -1,9 +1,6 @@
 -- `highest` meets its contract: after j turns top is the highest level of j symbols.
-use Prim.Native.Nat.{ℕ, ◌+◌, ◌-◌, ◌^◌, ◌≤◌}
-use mathlib.Core.Path.{◌≡◌, ap, ◌∙◌}
-use native.Mathlib.Omega.{arith}
-use borrow.Author.Rules.{rules}
-use Rattle.levels.proofs.Words.{highest_none, highest_more, highest_fits}
+use Prim.Native.Nat.{◌+◌, ◌-◌, ◌^◌, ◌≤◌}
+use mathlib.Core.Path.{◌≡◌}
 use Rattle.levels.proofs.level.highest.Given as goal
 
 abbrev pub invariant-loop-j : goal.invariant-loop-j

@@ -1,10 +1,6 @@
 -- `level_of` meets its contract: after j turns v is the level of the first j symbols.
-use Prim.Native.Nat.{ℕ, ◌-◌, ◌≤◌}
-use mathlib.Core.Path.{◌≡◌, ap, sym, ◌∙◌}
+use mathlib.Core.Path.{sym}
 use native.Mathlib.Omega.{arith}
-use lib.ListN.{get_or}
-use borrow.Author.Rules.{rules}
-use Rattle.defs.specs.Levels.{level}
 use Rattle.levels.proofs.Horner.{level_none}
 use Rattle.levels.proofs.Words.{level_grows, level_fits}
 use Rattle.levels.proofs.level.level_of.Goals as goal

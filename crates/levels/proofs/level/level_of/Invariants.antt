@@ -1,12 +1,8 @@
 -- `level_of` meets its contract: after j turns v is the level of the first j symbols.
-use Prim.Native.Nat.{ℕ, ◌-◌, ◌≤◌}
-use mathlib.Core.Path.{◌≡◌, ap, sym, ◌∙◌}
-use native.Mathlib.Omega.{arith}
+use Prim.Native.Nat.{◌-◌, ◌≤◌}
+use mathlib.Core.Path.{◌≡◌}
 use lib.ListN.{get_or}
-use borrow.Author.Rules.{rules}
 use Rattle.defs.specs.Levels.{level}
-use Rattle.levels.proofs.Horner.{level_none}
-use Rattle.levels.proofs.Words.{level_grows, level_fits}
 use Rattle.levels.proofs.level.level_of.Given as goal
 
 abbrev pub invariant-loop-j : goal.invariant-loop-j

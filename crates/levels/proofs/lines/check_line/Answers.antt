@@ -1,7 +1,5 @@
 -- `check_line` meets its contract: 17, 18 or neither, by what was read.
 use native.Mathlib.Omega.{arith}
-use borrow.Author.Rules.{rules}
-use borrow.Author.Tests.{not-true, not-false}
 use Rattle.levels.proofs.Judging.{number_ends, judged_bad, judged_high, end_inside, judged_fine}
 use Rattle.levels.proofs.lines.check_line.Goals as goal
 

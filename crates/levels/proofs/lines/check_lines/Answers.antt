@@ -1,13 +1,11 @@
 -- `check_lines` meets its contract: the lines before the place at have passed.
-use Prim.Native.Nat.{◌+◌, ◌-◌}
+use Prim.Native.Nat.{◌+◌}
 use mathlib.Core.Path.{◌≡◌, sym, ◌∙◌}
-use native.Mathlib.Omega.{arith}
-use lib.ListN.{length, drop}
-use borrow.Author.Rules.{rules}
+use lib.ListN.{drop}
 use Rattle.defs.specs.Levels.{level_verdict}
 use Rattle.defs.specs.declared.Verdict.TheVariants.{Fine}
 use Rattle.levels.specs.Lines.{head_line}
-use Rattle.levels.proofs.Checking.{Reached, reached_first, reached_bad, reached_more, reached_miscounted, reached_last}
+use Rattle.levels.proofs.Checking.{reached_bad, reached_more, reached_miscounted, reached_last}
 use Rattle.levels.proofs.lines.check_lines.Goals as goal
 
 pub loop-at-preserved : goal.loop-at-preserved

@@ -1,9 +1,8 @@
 -- `fill_row` meets its contract: the chunks of the lines before the place at stand in the row.
-use Prim.Native.Nat.{◌+◌, ◌-◌, ◌<◌, ◌≤◌}
+use Prim.Native.Nat.{◌<◌}
 use native.Mathlib.Omega.{arith}
 use lib.ListN.{length}
-use borrow.Author.Rules.{rules}
-use Rattle.levels.proofs.Filling.{Filling, filling_first, end_low, chunk_room, filling_more, filling_last}
+use Rattle.levels.proofs.Filling.{end_low, filling_more, filling_last}
 use Rattle.levels.proofs.lines.fill_row.Goals as goal
 
 pub loop-place-preserved : goal.loop-place-preserved

@@ -1,7 +1,5 @@
 -- `is_written` meets its contract: each way out by its lemma.
-use mathlib.Core.Path.{◌≡◌}
 use native.Mathlib.Omega.{arith}
-use lib.ListN.{get_or}
 use Rattle.levels.proofs.Judging.{end_within, no_number, no_end, cut_off, plain, zero_alone}
 use Rattle.levels.proofs.lines.is_written.Goals as goal
 

@@ -1,8 +1,4 @@
 -- `slip::layout::slip_size` meets its contract: no step of it wraps.
-use Prim.Native.Nat.{◌*◌, ◌≤◌}
-use native.Mathlib.Nat.{mul-le-mul}
-use native.Mathlib.Omega.{arith}
-use Rattle.defs.specs.Limits.{longest}
 use Rattle.defs.specs.Slip.{slip_size}
 use Rattle.slip.proofs.layout.slip_size.Goals as goal
 

@@ -1,15 +1,10 @@
 -- `slip::read::check_first` meets its contract: each way out by its lemma.
-use Prim.Native.Nat.{ℕ}
 use mathlib.Core.Bool.{true}
 use mathlib.Core.Path.{◌≡◌, sym, ◌∙◌}
-use mathlib.Core.List.{List}
-use borrow.Author.Rules.{rules}
-use borrow.Author.Tests.{not-true, not-false}
 use Rattle.defs.specs.Limits.{numbers_verdict}
 use Rattle.defs.specs.Slip.{is_edition}
 use Rattle.defs.specs.declared.Verdict.TheVariants.{Fine}
 use Rattle.slip.specs.declared.Head.{Head}
-use Rattle.slip.specs.Head.{Heads}
 use Rattle.slip.proofs.Reader.{head_laid, Opened, first_short, first_edition, first_cut, first_numbers, first_small, first_fine}
 use Rattle.slip.proofs.read.check_first.Goals as goal
 

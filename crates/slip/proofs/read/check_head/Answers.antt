@@ -1,7 +1,6 @@
 -- `slip::read::check_head` meets its contract: each way out by its lemma.
 use mathlib.Core.Path.{◌≡◌, sym, ◌∙◌}
 use native.Mathlib.Omega.{arith}
-use borrow.Author.Rules.{rules}
 use Rattle.defs.specs.Read.{first_verdict}
 use Rattle.defs.specs.declared.Verdict.TheVariants.{Fine}
 use Rattle.slip.proofs.Reader.{head_first, head_large, head_fine}

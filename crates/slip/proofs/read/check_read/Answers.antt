@@ -1,13 +1,8 @@
 -- `slip::read::check_read` meets its contract: each way out by its lemma.
-use Prim.Native.Nat.{ℕ}
 use mathlib.Core.Path.{◌≡◌, sym, ◌∙◌}
-use mathlib.Core.List.{List}
 use native.Mathlib.Omega.{arith}
-use borrow.Author.Rules.{rules}
 use Rattle.defs.specs.Read.{head_verdict}
 use Rattle.defs.specs.declared.Verdict.TheVariants.{Fine}
-use Rattle.slip.specs.declared.Head.{Head}
-use Rattle.slip.specs.Head.{Heads}
 use Rattle.slip.proofs.Reader.{Sound, sound, row_size, Searched, read_head, read_loose, read_twice, read_points, read_row, read_fine}
 use Rattle.slip.proofs.read.check_read.Goals as goal
 

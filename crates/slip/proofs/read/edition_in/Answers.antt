@@ -1,5 +1,4 @@
 -- `slip::read::edition_in` meets its contract: the edition is the first four bits.
-use borrow.Author.Rules.{rules}
 use Rattle.defs.specs.Slip.{edition_in}
 use Rattle.slip.proofs.read.edition_in.Goals as goal
 

@@ -1,9 +1,5 @@
 -- `slip::read::head_of` meets its contract: each field by its place.
-use Prim.Native.Nat.{ℕ}
-use mathlib.Core.List.{List}
 use native.Mathlib.Omega.{arith}
-use borrow.Author.Rules.{rules}
-use Rattle.defs.specs.declared.Layout.{Layout}
 use Rattle.slip.specs.Laid.{Laid}
 use Rattle.slip.proofs.Layouts.{laid_by}
 use Rattle.slip.proofs.Reader.{heads_told}

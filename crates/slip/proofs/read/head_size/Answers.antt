@@ -1,6 +1,5 @@
 -- `slip::read::head_size` meets its contract: the numbers of a header are small.
 use native.Mathlib.Omega.{arith}
-use borrow.Author.Rules.{rules}
 use Rattle.theory.specs.Limits.{Numbers}
 use Rattle.theory.proofs.Limits.{numbers_known, count_small}
 use Rattle.theory.proofs.Width.{width_top}

@@ -1,15 +1,12 @@
 -- `slip::read::loose_bits` meets its contract: the zero bits end the header, the fill is what the symbols leave of the last byte.
 use Prim.Native.Nat.{ℕ, ◌+◌, ◌*◌, ◌≤◌}
 use mathlib.Core.Path.{◌≡◌}
-use mathlib.Core.List.{List}
 use native.Mathlib.Nat.{mul-le-mul}
 use native.Mathlib.Omega.{arith}
 use lib.ListN.{length}
 use Rattle.defs.specs.Limits.{longest}
 use Rattle.defs.specs.Slip.{head_bits, slip_size, used_in}
 use Rattle.theory.proofs.Width.{width_top}
-use Rattle.slip.specs.declared.Head.{Head}
-use Rattle.slip.specs.Head.{Heads}
 use Rattle.slip.proofs.Reader.{Sound, sound, head_laid, row_size, symbols_few, header_top}
 use Rattle.slip.proofs.Canonical.{fill_few, used_is, loose_is}
 use Rattle.slip.proofs.read.loose_bits.Goals as goal

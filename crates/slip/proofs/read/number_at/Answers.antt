@@ -1,11 +1,10 @@
 -- `slip::read::number_at` meets its contract: out of two bytes, what is behind the number is divided away and what is before it is cut off.
-use Prim.Native.Nat.{ℕ, ◌*◌, ◌%◌, ◌^◌}
+use Prim.Native.Nat.{◌*◌, ◌%◌, ◌^◌}
 use mathlib.Core.Path.{◌≡◌, ◌∙◌}
 use native.Mathlib.Nat.{one-mul, mod-lt, lt_of_lt_of_le}
 use native.Mathlib.Omega.{arith}
 use lib.Dec.{lit<}
 use lib.Pow.{pow_pos, pow_mono, shl_exact}
-use borrow.Author.Rules.{rules}
 use Rattle.slip.proofs.Bits.{all_bits_are}
 use Rattle.slip.proofs.Packed.{number_read}
 use Rattle.slip.proofs.read.number_at.Goals as goal

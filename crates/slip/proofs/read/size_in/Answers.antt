@@ -1,6 +1,5 @@
 -- `slip::read::size_in` meets its contract: the header says what the size is.
 use mathlib.Core.Path.{◌∙◌}
-use borrow.Author.Rules.{rules}
 use Rattle.slip.proofs.Reader.{head_laid, numbers_inside, size_inside, begins}
 use Rattle.slip.proofs.read.size_in.Goals as goal
 

@@ -1,14 +1,9 @@
 -- `slip::read::slip_read` meets its contract: what passes the checks is sound and has room.
-use Prim.Native.Nat.{ℕ}
 use mathlib.Core.Path.{◌≡◌, sym, ◌∙◌}
-use mathlib.Core.List.{List}
 use native.Mathlib.Omega.{arith}
 use lib.ListN.{length}
-use borrow.Author.Rules.{rules}
 use Rattle.defs.specs.Read.{read_verdict}
 use Rattle.defs.specs.declared.Verdict.TheVariants.{Fine}
-use Rattle.slip.specs.declared.Head.{Head}
-use Rattle.slip.specs.Head.{Heads}
 use Rattle.slip.proofs.Reader.{Sound, sound, holds, row_size, reading_done, points_read, row_read, read_checked, read_room, read_refused, read_done}
 use Rattle.slip.proofs.read.slip_read.Goals as goal
 

@@ -1,17 +1,9 @@
 -- `slip::read::take_symbols` meets its contract: the first i places are filled.
-use Prim.Native.Nat.{ℕ, ◌+◌, ◌*◌, ◌-◌, ◌≤◌}
-use mathlib.Core.Path.{◌≡◌, refl, ap, ◌∙◌}
-use native.Mathlib.Omega.{arith}
-use lib.ListN.{length, length-set}
-use borrow.Author.Rules.{rules}
-use Rattle.defs.specs.Slip.{all_bits, number_at, head_bits}
+use Prim.Native.Nat.{◌+◌, ◌*◌, ◌-◌, ◌≤◌}
+use mathlib.Core.Path.{◌≡◌}
+use lib.ListN.{length}
+use Rattle.defs.specs.Slip.{all_bits, number_at}
 use Rattle.theory.specs.Fill.{filled}
-use Rattle.theory.proofs.Fill.{filled_none, filled_next}
-use Rattle.theory.proofs.Width.{width_top}
-use Rattle.slip.specs.declared.Head.{Head}
-use Rattle.slip.specs.Head.{Holds}
-use Rattle.slip.proofs.Front.{symbols_filled}
-use Rattle.slip.proofs.Reader.{head_laid}
 use Rattle.slip.proofs.read.take_symbols.Given as goal
 
 abbrev pub invariant-loop-i : goal.invariant-loop-i

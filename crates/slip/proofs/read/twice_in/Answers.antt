@@ -1,9 +1,8 @@
 -- `slip::read::twice_in` meets its contract: the points stand at the front of the array that is searched.
-use Prim.Native.Nat.{ℕ, ◌≤◌}
+use Prim.Native.Nat.{◌≤◌}
 use mathlib.Core.Path.{sym, ◌∙◌}
 use native.Mathlib.Omega.{arith}
 use lib.Seq.{length-take-le}
-use borrow.Author.Rules.{rules}
 use Rattle.defs.specs.Limits.{longest}
 use Rattle.slip.proofs.Reader.{Sound, sound, points_few, holds, twice_seen}
 use Rattle.slip.proofs.read.twice_in.Goals as goal

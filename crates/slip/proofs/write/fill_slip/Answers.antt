@@ -1,9 +1,8 @@
 -- `slip::write::fill_slip` meets its contract: the first i places are filled.
-use Prim.Native.Nat.{ℕ, ◌*◌, ◌-◌, ◌≤◌}
+use Prim.Native.Nat.{ℕ, ◌*◌}
 use mathlib.Core.Path.{◌≡◌, refl, ap, ◌∙◌}
 use native.Mathlib.Omega.{arith}
-use lib.ListN.{length, length-set}
-use borrow.Author.Rules.{rules}
+use lib.ListN.{length-set}
 use Rattle.defs.specs.Slip.{number_at, head_bits, slip_bits, slip_size}
 use Rattle.theory.specs.Fill.{filled}
 use Rattle.theory.proofs.Fill.{filled_none, filled_next}
@@ -15,8 +14,7 @@ loop-i-init c = (omega arith, refl, filled_none _ _ _)
 
 pub loop-i-preserved : goal.loop-i-preserved
 loop-i-preserved c =
-    let byte_at : ℕ → ℕ = λ j. number_at 8 (8 * j) (slip_bits c.args.layout c.args.m c.args.r c.args.k c.args.points.now c.args.row.now) in
-    (
+    let byte_at : ℕ → ℕ = λ j. number_at 8 (8 * j) (slip_bits c.args.layout c.args.m c.args.r c.args.k c.args.points.now c.args.row.now) in (
       omega arith,
       simp length-set c.loop-i.invariant.1,
       rw (c.loop-i.invariant.2, c.slip_byte.ensures)

@@ -1,13 +1,9 @@
 -- `slip::write::fill_slip` meets its contract: the first i places are filled.
-use Prim.Native.Nat.{ℕ, ◌*◌, ◌-◌, ◌≤◌}
-use mathlib.Core.Path.{◌≡◌, refl, ap, ◌∙◌}
-use native.Mathlib.Omega.{arith}
-use lib.ListN.{length, length-set}
-use borrow.Author.Rules.{rules}
-use Rattle.defs.specs.Slip.{number_at, head_bits, slip_bits, slip_size}
+use Prim.Native.Nat.{◌*◌, ◌-◌, ◌≤◌}
+use mathlib.Core.Path.{◌≡◌}
+use lib.ListN.{length}
+use Rattle.defs.specs.Slip.{number_at, slip_bits}
 use Rattle.theory.specs.Fill.{filled}
-use Rattle.theory.proofs.Fill.{filled_none, filled_next}
-use Rattle.slip.proofs.Front.{slip_filled}
 use Rattle.slip.proofs.write.fill_slip.Given as goal
 
 abbrev pub invariant-loop-i : goal.invariant-loop-i

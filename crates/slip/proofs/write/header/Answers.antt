@@ -1,10 +1,4 @@
 -- `slip::write::header` meets its contract: the fields one behind another.
-use Prim.Native.Nat.{◌+◌, ◌*◌, ◌≤◌}
-use native.Mathlib.Omega.{arith}
-use lib.Pow.{pow_mono}
-use borrow.Author.Rules.{rules}
-use Rattle.slip.specs.Laid.{Laid}
-use Rattle.slip.specs.Head.{Fitting}
 use Rattle.slip.proofs.HeaderBits.{header_number}
 use Rattle.slip.proofs.write.header.Goals as goal
 

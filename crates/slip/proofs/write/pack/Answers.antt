@@ -1,14 +1,10 @@
 -- `slip::write::pack` meets its contract: byte is the number of the bits of the symbols that were taken.
-use Prim.Native.Nat.{ℕ, ◌*◌, ◌-◌, ◌/◌, ◌^◌, ◌<◌, ◌≤◌}
-use mathlib.Core.Path.{◌≡◌}
+use Prim.Native.Nat.{ℕ, ◌*◌, ◌<◌, ◌≤◌}
 use mathlib.Core.List.{List, ◌++◌}
-use native.Mathlib.Nat.{div-le_self, mul-le-mul}
+use native.Mathlib.Nat.{mul-le-mul}
 use native.Mathlib.Omega.{arith}
-use borrow.Author.Rules.{rules}
-use Rattle.defs.specs.Field.{Width}
-use Rattle.defs.specs.Slip.{all_bits, number_at}
-use Rattle.theory.proofs.Width.{width_pos, field_top}
-use Rattle.slip.proofs.Packed.{pack_first, pack_turn, pack_last, pack_small}
+use Rattle.theory.proofs.Width.{field_top}
+use Rattle.slip.proofs.Packed.{pack_first, pack_turn, pack_small}
 use Rattle.slip.proofs.write.pack.Goals as goal
 
 pub loop-left-init : goal.loop-left-init
@@ -18,8 +14,7 @@ loop-left-init c =
 
 pub loop-left-preserved : goal.loop-left-preserved
 loop-left-preserved c =
-    let symbols : List ℕ = c.args.points.now ++ c.args.row.now in
-    (
+    let symbols : List ℕ = c.args.points.now ++ c.args.row.now in (
       omega arith,
       rw (c.field_size-size.ensures, c.wide.ensures.0, c.symbol.ensures)
           (pack_turn c.args.m c.args.i symbols c.requires.0 c.requires.1 c.loop-left.left c.loop-left.byte c.loop-left-test.true c.loop-left.invariant.0 c.loop-left.invariant.1),
@@ -30,7 +25,7 @@ overflow_add-byte c =
     let symbols : List ℕ = c.args.points.now ++ c.args.row.now in
     let small : c.loop-left.byte < 256 = pack_small c.args.m c.args.i symbols c.requires.0 c.loop-left.left c.loop-left.byte c.loop-left.invariant.1 in
     let product : c.loop-left.byte * c.field_size-size.result ≤ 256 * 256 = mul-le-mul {n₁ = c.loop-left.byte} {m₁ = c.field_size-size.result} {n₂ = 256} {m₂ = 256} (omega (arith, small))
-      (omega (arith, c.field_size-size.ensures, field_top c.args.m c.requires.0)) in
+    (omega (arith, c.field_size-size.ensures, field_top c.args.m c.requires.0)) in
     omega (arith, product, c.wide.ensures.1)
 
 pub overflow_cast-result : goal.overflow_cast-result
@@ -44,5 +39,5 @@ overflow_mul-byte c =
     let symbols : List ℕ = c.args.points.now ++ c.args.row.now in
     let small : c.loop-left.byte < 256 = pack_small c.args.m c.args.i symbols c.requires.0 c.loop-left.left c.loop-left.byte c.loop-left.invariant.1 in
     let product : c.loop-left.byte * c.field_size-size.result ≤ 256 * 256 = mul-le-mul {n₁ = c.loop-left.byte} {m₁ = c.field_size-size.result} {n₂ = 256} {m₂ = 256} (omega (arith, small))
-      (omega (arith, c.field_size-size.ensures, field_top c.args.m c.requires.0)) in
+    (omega (arith, c.field_size-size.ensures, field_top c.args.m c.requires.0)) in
     omega (arith, product)

@@ -1,14 +1,8 @@
 -- `slip::write::pack` meets its contract: byte is the number of the bits of the symbols that were taken.
-use Prim.Native.Nat.{ℕ, ◌*◌, ◌-◌, ◌/◌, ◌^◌, ◌<◌, ◌≤◌}
+use Prim.Native.Nat.{◌*◌, ◌-◌, ◌/◌, ◌≤◌}
 use mathlib.Core.Path.{◌≡◌}
-use mathlib.Core.List.{List, ◌++◌}
-use native.Mathlib.Nat.{div-le_self, mul-le-mul}
-use native.Mathlib.Omega.{arith}
-use borrow.Author.Rules.{rules}
-use Rattle.defs.specs.Field.{Width}
+use mathlib.Core.List.{◌++◌}
 use Rattle.defs.specs.Slip.{all_bits, number_at}
-use Rattle.theory.proofs.Width.{width_pos, field_top}
-use Rattle.slip.proofs.Packed.{pack_first, pack_turn, pack_last, pack_small}
 use Rattle.slip.proofs.write.pack.Given as goal
 
 abbrev pub invariant-loop-left : goal.invariant-loop-left

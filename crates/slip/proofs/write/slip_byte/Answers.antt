@@ -2,11 +2,7 @@
 use mathlib.Core.Path.{◌≡◌, ap, ◌∙◌}
 use Prim.Native.Nat.{ℕ, ◌/◌}
 use native.Mathlib.Omega.{arith}
-use borrow.Author.Rules.{rules}
-use Rattle.defs.specs.Limits.{Within}
 use Rattle.defs.specs.Slip.{head_bits}
-use Rattle.defs.specs.declared.Layout.{Layout}
-use Rattle.slip.specs.Laid.{Laid}
 use Rattle.slip.proofs.Packed.{header_byte, body_byte}
 use Rattle.slip.proofs.Writer.{within_width, within_fits, within_symbols}
 use Rattle.slip.proofs.write.slip_byte.Goals as goal
@@ -16,10 +12,10 @@ header-h-requires c = (c.requires.0, within_fits _ c.requires.0 _ _ _ _ c.requir
 
 pub pack-requires : goal.pack-requires
 pack-requires c = let a = c.args in (
-      within_width _ c.requires.0 _ _ _ _ c.requires.1,
-      within_symbols _ c.requires.0 _ _ _ _ c.requires.1 a.row.now c.requires.2,
-      omega (arith, c.requires.3),
-    )
+  within_width _ c.requires.0 _ _ _ _ c.requires.1,
+  within_symbols _ c.requires.0 _ _ _ _ c.requires.1 a.row.now c.requires.2,
+  omega (arith, c.requires.3),
+)
 
 pub returns : goal.returns
 returns c =

@@ -1,10 +1,8 @@
 -- `slip::write::slip_write` meets its contract: each way out by its lemma.
 use Prim.Native.Nat.{ℕ, ◌+◌, ◌*◌, ◌≤◌}
 use mathlib.Core.Path.{◌≡◌, ap, sym, ◌∙◌}
-use mathlib.Core.List.{List}
 use native.Mathlib.Omega.{arith}
 use lib.ListN.{length}
-use borrow.Author.Rules.{rules}
 use Rattle.defs.specs.Field.{Width}
 use Rattle.defs.specs.Limits.{longest}
 use Rattle.defs.specs.Slip.{layout_of, slip_size}
@@ -31,10 +29,10 @@ fill_slip-requires-clause-size_value c =
     let symbols : ℕ = length c.args.points.now + length c.args.row.now in
     let size_is : c.slip_size-size.result ≡ slip_size (layout_of c.args.edition) c.args.m symbols = c.slip_size-size.ensures ∙ ap (λ (L : Layout). slip_size L c.args.m symbols) c.layout_of-layout.ensures in
     let e = size_is in (
-        c.slip_size-size.ensures,
-        omega (arith, e, written_top _ _ _ _ _ _ _ taken),
-        omega (arith, e, taken.room),
-      )
+      c.slip_size-size.ensures,
+      omega (arith, e, written_top _ _ _ _ _ _ _ taken),
+      omega (arith, e, taken.room),
+    )
 
 pub returns : goal.returns
 returns c =

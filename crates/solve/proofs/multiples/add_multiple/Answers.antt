@@ -1,21 +1,19 @@
 -- `solve::multiples::add_multiple` meets its contract.
-use Prim.Native.Nat.{◌+◌, ◌*◌, ◌-◌, ◌≤◌}
+use Prim.Native.Nat.{◌+◌, ◌*◌}
 use native.Mathlib.Omega.{arith}
-use borrow.Author.Rules.{rules}
-use Rattle.theory.proofs.Width.{field_top}
 use Rattle.defs.specs.Field.{add}
 use Rattle.solve.specs.Table.{stride}
-use Rattle.solve.proofs.Writes.{Adds, wrote_none, adds_more, wrote_added}
+use Rattle.solve.proofs.Writes.{adds_more, wrote_added}
 use Rattle.solve.proofs.multiples.add_multiple.Goals as goal
 
 pub loop-j-preserved : goal.loop-j-preserved
 unfolding add
 loop-j-preserved c = (
-      omega arith,
-      omega arith,
-      adds_more _ _ (λ i. c.args.r * stride + i) (λ i. c.args.p * stride + i) c.loop-j.invariant.2 c.loop-j.invariant.0 (omega arith) (λ j l e. omega arith)
-          (c.requires.multiples.sums _ _ c.requires.f_bound.0 c.loop-j.invariant.0 c.loop-j-test.true),
-    )
+  omega arith,
+  omega arith,
+  adds_more _ _ (λ i. c.args.r * stride + i) (λ i. c.args.p * stride + i) c.loop-j.invariant.2 c.loop-j.invariant.0 (omega arith) (λ j l e. omega arith)
+      (c.requires.multiples.sums _ _ c.requires.f_bound.0 c.loop-j.invariant.0 c.loop-j-test.true),
+)
 
 pub returns-clause-added : goal.returns-clause-added
 returns-clause-added c = let v = c.loop-j.invariant in

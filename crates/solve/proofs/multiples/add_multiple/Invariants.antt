@@ -1,11 +1,7 @@
 -- `solve::multiples::add_multiple` meets its contract.
 use Prim.Native.Nat.{◌+◌, ◌*◌, ◌-◌, ◌≤◌}
-use native.Mathlib.Omega.{arith}
-use borrow.Author.Rules.{rules}
-use Rattle.theory.proofs.Width.{field_top}
-use Rattle.defs.specs.Field.{add}
 use Rattle.solve.specs.Table.{stride}
-use Rattle.solve.proofs.Writes.{Adds, wrote_none, adds_more, wrote_added}
+use Rattle.solve.proofs.Writes.{Adds}
 use Rattle.solve.proofs.multiples.add_multiple.Given as goal
 
 abbrev pub invariant-loop-j : goal.invariant-loop-j

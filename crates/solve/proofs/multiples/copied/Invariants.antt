@@ -1,13 +1,9 @@
 -- `solve::multiples::copied` meets its contract.
-use mathlib.Core.Path.{refl, ◌∙◌}
 use Prim.Native.Nat.{◌+◌, ◌*◌, ◌-◌, ◌≤◌}
-use native.Mathlib.Omega.{arith}
-use borrow.Author.Rules.{rules}
 use lib.ListN.{get_or, replicate}
-use Rattle.theory.proofs.Place.{zeros_zero, zeros_symbols}
 use Rattle.solve.specs.Table.{stride}
 use Rattle.solve.specs.Multiples.{multiples_size}
-use Rattle.solve.proofs.Writes.{Wrote, wrote_none, wrote_more}
+use Rattle.solve.proofs.Writes.{Wrote}
 use Rattle.solve.proofs.multiples.copied.Given as goal
 
 abbrev pub invariant-loop-j : goal.invariant-loop-j

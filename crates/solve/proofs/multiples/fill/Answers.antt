@@ -1,10 +1,5 @@
 -- `solve::multiples::fill` meets its contract.
-use mathlib.Core.Path.{◌≡◌}
-use Prim.Native.Nat.{◌-◌, ◌≤◌}
 use native.Mathlib.Omega.{arith}
-use borrow.Author.Rules.{rules}
-use Rattle.solve.specs.Table.{at}
-use Rattle.solve.specs.Multiples.{Rows, Filled}
 use Rattle.solve.proofs.Sixteens.{filled_first, filled_next}
 use Rattle.solve.proofs.multiples.fill.Goals as goal
 

@@ -1,7 +1,4 @@
 -- `solve::multiples::multiples` meets its contract.
-use mathlib.Core.Path.{◌∙◌}
-use native.Mathlib.Omega.{arith}
-use borrow.Author.Rules.{rules}
 use Rattle.solve.proofs.Sixteens.{made}
 use Rattle.solve.proofs.multiples.multiples.Goals as goal
 

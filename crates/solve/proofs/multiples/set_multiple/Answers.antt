@@ -1,14 +1,11 @@
 -- `solve::multiples::set_multiple` meets its contract.
 use mathlib.Core.Path.{ap, ap₂, ◌∙◌}
-use Prim.Native.Nat.{◌+◌, ◌*◌, ◌-◌, ◌≤◌}
+use Prim.Native.Nat.{◌+◌, ◌*◌}
 use native.Mathlib.Omega.{arith}
-use borrow.Author.Rules.{rules}
-use lib.ListN.{get_or}
 use Rattle.defs.specs.Field.{add, times2}
 use Rattle.theory.proofs.Field.{add_lt}
 use Rattle.solve.specs.Table.{stride}
-use Rattle.solve.specs.Multiples.{multiples_size}
-use Rattle.solve.proofs.Writes.{Wrote, wrote_none, wrote_more}
+use Rattle.solve.proofs.Writes.{wrote_more}
 use Rattle.solve.proofs.multiples.set_multiple.Goals as goal
 
 pub loop-j-preserved : goal.loop-j-preserved

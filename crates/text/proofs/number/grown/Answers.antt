@@ -1,9 +1,6 @@
 -- `grown` takes a digit more: each way out by its lemma.
-use Prim.Native.Nat.{ℕ, ◌≤◌}
-use mathlib.Core.Path.{◌≡◌}
+use Prim.Native.Nat.{◌≤◌}
 use native.Mathlib.Omega.{arith}
-use borrow.Author.Rules.{rules}
-use Rattle.text.specs.declared.number.Value.TheVariants.{Is}
 use Rattle.text.proofs.Numbers.{digit_known, grown_above, grown_digit, grown_high, grown_low}
 use Rattle.text.proofs.number.grown.Goals as goal
 

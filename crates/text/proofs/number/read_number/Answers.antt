@@ -1,12 +1,9 @@
 -- `read_number` reads digit after digit; those before i make the number so far.
-use Prim.Native.Nat.{◌-◌}
 use mathlib.Core.Bool.{true}
 use mathlib.Core.Path.{◌≡◌, sym, ◌∙◌}
-use lib.ListN.{length, get_or}
-use borrow.Author.Rules.{rules}
-use borrow.Author.Tests.{not-true, not-false}
+use lib.ListN.{get_or}
 use Rattle.defs.specs.Text.{is_digit}
-use Rattle.text.proofs.Numbers.{Begun, begun_first, begun_more, begun_stop, begun_last}
+use Rattle.text.proofs.Numbers.{begun_first, begun_more, begun_stop, begun_last}
 use Rattle.text.proofs.number.read_number.Goals as goal
 
 pub loop-i-init : goal.loop-i-init

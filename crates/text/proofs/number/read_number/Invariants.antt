@@ -1,12 +1,7 @@
 -- `read_number` reads digit after digit; those before i make the number so far.
 use Prim.Native.Nat.{◌-◌}
-use mathlib.Core.Bool.{true}
-use mathlib.Core.Path.{◌≡◌, sym, ◌∙◌}
-use lib.ListN.{length, get_or}
-use borrow.Author.Rules.{rules}
-use borrow.Author.Tests.{not-true, not-false}
-use Rattle.defs.specs.Text.{is_digit}
-use Rattle.text.proofs.Numbers.{Begun, begun_first, begun_more, begun_stop, begun_last}
+use lib.ListN.{length}
+use Rattle.text.proofs.Numbers.{Begun}
 use Rattle.text.proofs.number.read_number.Given as goal
 
 abbrev pub invariant-loop-i : goal.invariant-loop-i
