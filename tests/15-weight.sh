@@ -6,7 +6,7 @@
 source "$(dirname "$0")/common.bash"
 archive=target/staticlib/libplq.a
 below_data=1784    # 1,768 and a constant of 16
-below_code=53072   # 51,072 and a slack of 2,000
+below_code=52578   # 51,072 and a slack of 1,506
 below_encoder=2275 # 2,213 and a slack of 62
 
 # weighed FILE: its sections and their sizes

@@ -57,7 +57,8 @@ pub fn number(input: &mut impl Read, there: bool) -> io::Result<usize> {
     Ok(low + high * 4294967296)
 }
 
-// Puts a slice at the front of s and says how long it is: 0 where the frame has none, or there is no room for it.
+// Puts a slice at the front of s and says how long it is: 0 where the frame has none, or there is no room for it. Where a read
+// fails, s may be written in part.
 pub fn slice(input: &mut impl Read, there: bool, s: &mut [u8]) -> io::Result<usize>
     ensures front { ReadsAtMost result s.new }
     ensures size { length s.new ≡ length s.old }

@@ -9,7 +9,8 @@ use line::ROOM;
 use std::io;
 use std::io::Read;
 
-// Reads until the buffer is full or the input ends, and answers how many bytes it put at the front.
+// Reads until the buffer is full or the input ends, and answers how many bytes it put at the front. The one error is the input's own; the buffer
+// may then be written in part.
 pub fn read_full(input: &mut impl Read, buf: &mut [u8]) -> io::Result<usize>
     ensures front { ReadsAtMost result buf.new }
     ensures size { length buf.new ≡ length buf.old }

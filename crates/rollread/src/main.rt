@@ -59,7 +59,7 @@ fn walk_part(rt: &impl Print, part: &[u8], is_last: bool) -> io::Result<Standing
     Ok(Standing { at, is_over: true })
 }
 
-// Fills the buffer behind the bytes that are left, and answers how many it then has.
+// Fills the buffer behind the bytes that are left, and answers how many it then has. Where a read fails, what is behind them may be written in part.
 fn fill(input: &mut impl Read, buf: &mut [u8], left: usize) -> io::Result<usize>
     requires { left ≤ length buf.old }
     ensures within { IfOk result (λ n. n ≤ length buf.new) }

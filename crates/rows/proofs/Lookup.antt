@@ -124,7 +124,7 @@ module _ (m : ℕ) (w : Width m) where
       found : (a : ℕ) → a < 2 ^ m → (a ≡ 0 → ⊥) → Logarithm m a (get_or table a 0)
       found a h n = let c = generates m w a h n in subst (λ (x : ℕ). Logarithm m x (get_or table x 0)) c.2 (g.at c.0 (omega (arith, c.1)))
 
--- ---- look_up
+-- ---- look-up
 
 module _ (m : ℕ) (w : Width m) (a l e : ℕ) (h : LogOf m a l) (b : e ≤ 2 ^ m - 1) where
   -- the place where the product of a and the power e stands
