@@ -8,13 +8,19 @@ use Rattle.theory.proofs.Order.{eq_lt}
 use Rattle.code.proofs.Known.{code_numbers, code_symbols, code_point}
 use Rattle.pair.proofs.Systems.{zero_shape, chunk_fits, chunk_next, chunk_symbols, system_none, system_more}
 use Rattle.pair.proofs.write_system.Goals as goal
+use Rattle.pair.proofs.write_system.Goals.{In-loop-i}
+
+-- what the code says, and where a turn's chunk ends
+numbers : (c : In-loop-i) → Numbers c.args.code.m c.args.code.r c.args.code.k c.args.code.count
+numbers c = code_numbers c.requires.code
+
+ends : (c : In-loop-i) → c.loop-i.p + c.args.code.r ≤ c.args.code.r * c.args.code.count
+ends c = chunk_fits _ _ _ _ c.loop-i.invariant.1 c.loop-i-test.true
 
 pub chunk_of-chunk-requires : goal.chunk_of-chunk-requires
 chunk_of-chunk-requires c =
-    let numbers : Numbers c.args.code.m c.args.code.r c.args.code.k c.args.code.count = code_numbers c.requires.code in
-    let ends : c.loop-i.p + c.args.code.r ≤ c.args.code.r * c.args.code.count = chunk_fits _ _ _ _ c.loop-i.invariant.1 c.loop-i-test.true in
-    let within : c.loop-i.p + c.args.code.r ≤ length c.args.row.now = omega (arith, ends, c.requires.row.size) in
-    (numbers.r_top, within)
+    let within : c.loop-i.p + c.args.code.r ≤ length c.args.row.now = omega (arith, (ends (goal.at.chunk_of-chunk-requires c).In-loop-i), c.requires.row.size) in
+    ((numbers (goal.at.chunk_of-chunk-requires c).In-loop-i).r_top, within)
 
 pub loop-i-init : goal.loop-i-init
 loop-i-init c = (omega arith, omega arith, system_none (zero_shape _ (code_numbers c.requires.code).width c.requires.t_len.0 c.requires.by_index), λ k l. c.requires.by_index k)
@@ -30,13 +36,12 @@ loop-i-preserved c = let al = c.loop-i in
 
 pub write_chunk-requires-clause-point_bound : goal.write_chunk-requires-clause-point_bound
 write_chunk-requires-clause-point_bound c =
-    let numbers : Numbers c.args.code.m c.args.code.r c.args.code.k c.args.code.count = code_numbers c.requires.code in
-    let ends : c.loop-i.p + c.args.code.r ≤ c.args.code.r * c.args.code.count = chunk_fits _ _ _ _ c.loop-i.invariant.1 c.loop-i-test.true in
-    let al = c.loop-i in (
+    let al = c.loop-i in
+    (
       eq_lt (code_point c.requires.code al.i c.loop-i-test.true) (code_symbols c.requires.code al.i),
-      numbers.r_pos,
-      numbers.r_top,
-      omega (arith, ends, numbers.row_top),
+      (numbers (goal.at.write_chunk-requires-clause-point_bound c).In-loop-i).r_pos,
+      (numbers (goal.at.write_chunk-requires-clause-point_bound c).In-loop-i).r_top,
+      omega (arith, (ends (goal.at.write_chunk-requires-clause-point_bound c).In-loop-i), (numbers (goal.at.write_chunk-requires-clause-point_bound c).In-loop-i).row_top),
       c.requires.t_len.1,
       c.requires.t_len.2,
     )

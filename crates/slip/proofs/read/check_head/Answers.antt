@@ -5,16 +5,18 @@ use Rattle.defs.specs.Read.{first_verdict}
 use Rattle.defs.specs.declared.Verdict.TheVariants.{Fine}
 use Rattle.slip.proofs.Reader.{head_first, head_large, head_fine}
 use Rattle.slip.proofs.read.check_head.Goals as goal
+use Rattle.slip.proofs.read.check_head.Goals.{In_default}
+
+-- where the bytes are known to begin with a slip
+fine : (c : In_default) → first_verdict c.args.bytes.now ≡ Fine
+fine c = sym c.check_first-v.ensures ∙ c.in_default.is
 
 pub returns : goal.returns
-returns c =
-    let fine : first_verdict c.args.bytes.now ≡ Fine = sym c.check_first-v.ensures ∙ c.in_default.is in
-    head_fine _ fine (omega (arith, c.size_in.ensures, c.if-size_in-bytes.false))
+returns c = head_fine _ (fine (goal.at.returns c).In_default) (omega (arith, c.size_in.ensures, c.if-size_in-bytes.false))
 
 pub returns-in-Refused : goal.returns-in-Refused
 returns-in-Refused c = head_first _ _ (cc (c.check_first-v.ensures, c.in-Refused.is))
 
 pub returns-then-size_in-bytes : goal.returns-then-size_in-bytes
 returns-then-size_in-bytes c =
-    let fine : first_verdict c.args.bytes.now ≡ Fine = sym c.check_first-v.ensures ∙ c.in_default.is in
-    head_large _ fine (omega (arith, c.size_in.ensures, c.if-size_in-bytes.true))
+    head_large _ (fine (goal.at.returns-then-size_in-bytes c).In_default) (omega (arith, c.size_in.ensures, c.if-size_in-bytes.true))

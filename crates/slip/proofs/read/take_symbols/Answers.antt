@@ -10,6 +10,11 @@ use Rattle.theory.proofs.Width.{width_top}
 use Rattle.slip.proofs.Front.{symbols_filled}
 use Rattle.slip.proofs.Reader.{head_laid}
 use Rattle.slip.proofs.read.take_symbols.Goals as goal
+use Rattle.slip.proofs.read.take_symbols.Goals.{After-head_bits-start}
+
+-- where the header's bits are known
+abbrev symbol_at : (c : After-head_bits-start) → ℕ → ℕ
+symbol_at c = λ j. number_at c.args.head.m (c.head_bits-start.result + c.args.head.m * (c.args.past + j)) (all_bits 8 c.args.bytes.now)
 
 pub head_bits-start-requires : goal.head_bits-start-requires
 head_bits-start-requires c = head_laid _ _ c.requires.0.heads
@@ -19,11 +24,11 @@ loop-i-init c = (omega arith, refl, filled_none _ _ _)
 
 pub loop-i-preserved : goal.loop-i-preserved
 loop-i-preserved c =
-    let symbol_at : ℕ → ℕ = λ j. number_at c.args.head.m (c.head_bits-start.result + c.args.head.m * (c.args.past + j)) (all_bits 8 c.args.bytes.now) in (
+    (
       omega arith,
       simp length-set c.loop-i.invariant.1,
       rw (c.loop-i.invariant.2, c.read_symbol.ensures)
-          (filled_next c.args.out.now symbol_at c.loop-i.i (omega (arith, c.requires.1))),
+          (filled_next c.args.out.now (symbol_at (goal.at.loop-i-preserved c).After-head_bits-start) c.loop-i.i (omega (arith, c.requires.1))),
     )
 
 pub read_symbol-requires : goal.read_symbol-requires
@@ -34,10 +39,9 @@ read_symbol-requires c =
 
 pub returns : goal.returns
 returns c =
-    let symbol_at : ℕ → ℕ = λ j. number_at c.args.head.m (c.head_bits-start.result + c.args.head.m * (c.args.past + j)) (all_bits 8 c.args.bytes.now) in
     let a = c.args in
     let h = c.requires.0.heads in
     let e : c.loop-i.i ≡ a.n = omega arith in
     c.loop-i.invariant.2
-    ∙ ap (λ (n : ℕ). filled a.out.now 0 symbol_at n) e
+    ∙ ap (λ (n : ℕ). filled a.out.now 0 (symbol_at (goal.at.returns c).After-head_bits-start) n) e
     ∙ symbols_filled a.bytes.now c.head_bits-start.result c.args.head.m a.past a.n a.out.now (c.head_bits-start.ensures ∙ ap head_bits h.layout_is) h.m_is

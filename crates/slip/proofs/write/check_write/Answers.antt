@@ -15,98 +15,73 @@ use Rattle.code.proofs.Outcome.{verdict_is}
 use Rattle.slip.proofs.Layouts.{laid, laid_by}
 use Rattle.slip.proofs.Writer.{within_limits, within_width, few, refused_edition, refused_numbers, refused_code, code_fine, refused_row, refused_size, by_symbols}
 use Rattle.slip.proofs.write.check_write.Goals as goal
+use Rattle.slip.proofs.write.check_write.Goals.{After-check_numbers-numbers, After-layout_of-layout, After-slip_size, In_default, In_default-v}
+
+-- where the edition is known, and its layout
+known : (c : After-layout_of-layout) → is_edition c.args.edition ≡ true
+known c = sym c.is_edition.ensures ∙ c.if-not-is_edition.false
+
+abbrev numbers : (c : After-layout_of-layout) → Verdict
+numbers c = numbers_verdict (layout_of c.args.edition).top c.args.m c.args.r c.args.k (length c.args.points.now)
+
+-- where the numbers were looked at
+numbers_are : (c : After-check_numbers-numbers) → (numbers (goal.at.After-check_numbers-numbers c).After-layout_of-layout) ≡ c.check_numbers-numbers.result
+numbers_are c = let a = c.args in
+    sym (c.check_numbers-numbers.ensures ∙ ap (λ (L : Layout). numbers_verdict L.top a.m a.r a.k (length a.points.now)) c.layout_of-layout.ensures)
+
+-- where they are fine
+fine : (c : In_default) → (numbers (goal.at.In_default c).After-layout_of-layout) ≡ Fine
+fine c = (numbers_are (goal.at.In_default c).After-check_numbers-numbers) ∙ c.in_default.is
+
+-- where the code is
+within : (c : In_default-v) → Within (layout_of c.args.edition).top c.args.m c.args.r c.args.k c.args.points.now
+within c = code_fine _ _ _ _ _ c.args.row.now c.args.size (known (goal.at.In_default-v c).After-layout_of-layout) (fine (goal.at.In_default-v c).In_default)
+    (sym (verdict_is _ _ _ _ _ c.check_code-checked.ensures) ∙ c.in_default-v.is)
+
+width : (c : In_default-v) → Width c.args.m
+width c = within_width _ (laid c.args.edition) _ _ _ _ (within c)
+
+-- where the slip's size is known
+abbrev symbols : (c : After-slip_size) → ℕ
+symbols c = length c.args.points.now + length c.args.row.now
+
+size_is : (c : After-slip_size) → c.slip_size.result ≡ slip_size (layout_of c.args.edition) c.args.m (symbols c)
+size_is c = c.slip_size.ensures ∙ ap (λ (L : Layout). slip_size L c.args.m (symbols c)) c.layout_of-layout.ensures
 
 pub check_symbols-requires : goal.check_symbols-requires
-check_symbols-requires c =
-    let known : is_edition c.args.edition ≡ true = sym c.is_edition.ensures ∙ c.if-not-is_edition.false in
-    let numbers : Verdict = numbers_verdict (layout_of c.args.edition).top c.args.m c.args.r c.args.k (length c.args.points.now) in
-    let numbers_are : numbers ≡ c.check_numbers-numbers.result = let a = c.args in
-    sym (c.check_numbers-numbers.ensures ∙ ap (λ (L : Layout). numbers_verdict L.top a.m a.r a.k (length a.points.now)) c.layout_of-layout.ensures) in
-    let fine : numbers ≡ Fine = numbers_are ∙ c.in_default.is in
-    let within : Within (layout_of c.args.edition).top c.args.m c.args.r c.args.k c.args.points.now = code_fine _ _ _ _ _ c.args.row.now c.args.size known fine
-    (sym (verdict_is _ _ _ _ _ c.check_code-checked.ensures) ∙ c.in_default-v.is) in
-    let width : Width c.args.m = within_width _ (laid c.args.edition) _ _ _ _ within in
-    width
+check_symbols-requires c = width (goal.at.check_symbols-requires c).In_default-v
 
 pub overflow_mul-r : goal.overflow_mul-r
 overflow_mul-r c =
-    let known : is_edition c.args.edition ≡ true = sym c.is_edition.ensures ∙ c.if-not-is_edition.false in
-    let numbers : Verdict = numbers_verdict (layout_of c.args.edition).top c.args.m c.args.r c.args.k (length c.args.points.now) in
-    let numbers_are : numbers ≡ c.check_numbers-numbers.result = let a = c.args in
-    sym (c.check_numbers-numbers.ensures ∙ ap (λ (L : Layout). numbers_verdict L.top a.m a.r a.k (length a.points.now)) c.layout_of-layout.ensures) in
-    let fine : numbers ≡ Fine = numbers_are ∙ c.in_default.is in
-    let within : Within (layout_of c.args.edition).top c.args.m c.args.r c.args.k c.args.points.now = code_fine _ _ _ _ _ c.args.row.now c.args.size known fine
-    (sym (verdict_is _ _ _ _ _ c.check_code-checked.ensures) ∙ c.in_default-v.is) in
-    omega (arith, (within_limits _ (laid c.args.edition) _ _ _ _ within).numbers.row_top)
+    omega (arith, (within_limits _ (laid c.args.edition) _ _ _ _ (within (goal.at.overflow_mul-r c).In_default-v)).numbers.row_top)
 
 pub returns : goal.returns
 returns c =
-    let known : is_edition c.args.edition ≡ true = sym c.is_edition.ensures ∙ c.if-not-is_edition.false in
-    let numbers : Verdict = numbers_verdict (layout_of c.args.edition).top c.args.m c.args.r c.args.k (length c.args.points.now) in
-    let numbers_are : numbers ≡ c.check_numbers-numbers.result = let a = c.args in
-    sym (c.check_numbers-numbers.ensures ∙ ap (λ (L : Layout). numbers_verdict L.top a.m a.r a.k (length a.points.now)) c.layout_of-layout.ensures) in
-    let fine : numbers ≡ Fine = numbers_are ∙ c.in_default.is in
-    let within : Within (layout_of c.args.edition).top c.args.m c.args.r c.args.k c.args.points.now = code_fine _ _ _ _ _ c.args.row.now c.args.size known fine
-    (sym (verdict_is _ _ _ _ _ c.check_code-checked.ensures) ∙ c.in_default-v.is) in
-    let symbols : ℕ = length c.args.points.now + length c.args.row.now in
-    let size_is : c.slip_size.result ≡ slip_size (layout_of c.args.edition) c.args.m symbols = c.slip_size.ensures ∙ ap (λ (L : Layout). slip_size L c.args.m symbols) c.layout_of-layout.ensures in
-    by_symbols _ _ _ _ _ _ _ known within c.if-row-r.false (rw size_is at c.if-size-slip_size.false) _ c.check_symbols.ensures
+    by_symbols _ _ _ _ _ _ _ (known (goal.at.returns c).After-layout_of-layout) (within (goal.at.returns c).In_default-v) c.if-row-r.false (rw (size_is (goal.at.returns c).After-slip_size) at c.if-size-slip_size.false) _ c.check_symbols.ensures
 
 pub returns-in-Refused : goal.returns-in-Refused
 returns-in-Refused c =
-    let known : is_edition c.args.edition ≡ true = sym c.is_edition.ensures ∙ c.if-not-is_edition.false in
-    let numbers : Verdict = numbers_verdict (layout_of c.args.edition).top c.args.m c.args.r c.args.k (length c.args.points.now) in
-    let numbers_are : numbers ≡ c.check_numbers-numbers.result = let a = c.args in
-    sym (c.check_numbers-numbers.ensures ∙ ap (λ (L : Layout). numbers_verdict L.top a.m a.r a.k (length a.points.now)) c.layout_of-layout.ensures) in
-    refused_numbers _ _ _ _ _ _ _ known _ (numbers_are ∙ c.in-Refused.is)
+    refused_numbers _ _ _ _ _ _ _ (known (goal.at.returns-in-Refused c).After-layout_of-layout) _ ((numbers_are (goal.at.returns-in-Refused c).After-check_numbers-numbers) ∙ c.in-Refused.is)
 
 pub returns-in-Refused-v : goal.returns-in-Refused-v
 returns-in-Refused-v c =
-    let known : is_edition c.args.edition ≡ true = sym c.is_edition.ensures ∙ c.if-not-is_edition.false in
-    let numbers : Verdict = numbers_verdict (layout_of c.args.edition).top c.args.m c.args.r c.args.k (length c.args.points.now) in
-    let numbers_are : numbers ≡ c.check_numbers-numbers.result = let a = c.args in
-    sym (c.check_numbers-numbers.ensures ∙ ap (λ (L : Layout). numbers_verdict L.top a.m a.r a.k (length a.points.now)) c.layout_of-layout.ensures) in
-    let fine : numbers ≡ Fine = numbers_are ∙ c.in_default.is in
-    refused_code _ _ _ _ _ _ _ known fine _ (sym (verdict_is _ _ _ _ _ c.check_code-checked.ensures) ∙ c.in-Refused-v.is)
+    refused_code _ _ _ _ _ _ _ (known (goal.at.returns-in-Refused-v c).After-layout_of-layout) (fine (goal.at.returns-in-Refused-v c).In_default) _ (sym (verdict_is _ _ _ _ _ c.check_code-checked.ensures) ∙ c.in-Refused-v.is)
 
 pub returns-then-not-is_edition : goal.returns-then-not-is_edition
 returns-then-not-is_edition c = refused_edition _ _ _ _ _ _ _ (sym c.is_edition.ensures ∙ c.if-not-is_edition.true)
 
 pub returns-then-row-r : goal.returns-then-row-r
 returns-then-row-r c =
-    let known : is_edition c.args.edition ≡ true = sym c.is_edition.ensures ∙ c.if-not-is_edition.false in
-    let numbers : Verdict = numbers_verdict (layout_of c.args.edition).top c.args.m c.args.r c.args.k (length c.args.points.now) in
-    let numbers_are : numbers ≡ c.check_numbers-numbers.result = let a = c.args in
-    sym (c.check_numbers-numbers.ensures ∙ ap (λ (L : Layout). numbers_verdict L.top a.m a.r a.k (length a.points.now)) c.layout_of-layout.ensures) in
-    let fine : numbers ≡ Fine = numbers_are ∙ c.in_default.is in
-    let within : Within (layout_of c.args.edition).top c.args.m c.args.r c.args.k c.args.points.now = code_fine _ _ _ _ _ c.args.row.now c.args.size known fine
-    (sym (verdict_is _ _ _ _ _ c.check_code-checked.ensures) ∙ c.in_default-v.is) in
-    refused_row _ _ _ _ _ _ _ known within c.if-row-r.true
+    refused_row _ _ _ _ _ _ _ (known (goal.at.returns-then-row-r c).After-layout_of-layout) (within (goal.at.returns-then-row-r c).In_default-v) c.if-row-r.true
 
 pub returns-then-size-slip_size : goal.returns-then-size-slip_size
 returns-then-size-slip_size c =
-    let known : is_edition c.args.edition ≡ true = sym c.is_edition.ensures ∙ c.if-not-is_edition.false in
-    let numbers : Verdict = numbers_verdict (layout_of c.args.edition).top c.args.m c.args.r c.args.k (length c.args.points.now) in
-    let numbers_are : numbers ≡ c.check_numbers-numbers.result = let a = c.args in
-    sym (c.check_numbers-numbers.ensures ∙ ap (λ (L : Layout). numbers_verdict L.top a.m a.r a.k (length a.points.now)) c.layout_of-layout.ensures) in
-    let fine : numbers ≡ Fine = numbers_are ∙ c.in_default.is in
-    let within : Within (layout_of c.args.edition).top c.args.m c.args.r c.args.k c.args.points.now = code_fine _ _ _ _ _ c.args.row.now c.args.size known fine
-    (sym (verdict_is _ _ _ _ _ c.check_code-checked.ensures) ∙ c.in_default-v.is) in
-    let symbols : ℕ = length c.args.points.now + length c.args.row.now in
-    let size_is : c.slip_size.result ≡ slip_size (layout_of c.args.edition) c.args.m symbols = c.slip_size.ensures ∙ ap (λ (L : Layout). slip_size L c.args.m symbols) c.layout_of-layout.ensures in
-    refused_size _ _ _ _ _ _ _ known within c.if-row-r.false (rw size_is at c.if-size-slip_size.true)
+    refused_size _ _ _ _ _ _ _ (known (goal.at.returns-then-size-slip_size c).After-layout_of-layout) (within (goal.at.returns-then-size-slip_size c).In_default-v) c.if-row-r.false (rw (size_is (goal.at.returns-then-size-slip_size c).After-slip_size) at c.if-size-slip_size.true)
 
 pub slip_size-requires : goal.slip_size-requires
 slip_size-requires c =
-    let known : is_edition c.args.edition ≡ true = sym c.is_edition.ensures ∙ c.if-not-is_edition.false in
-    let numbers : Verdict = numbers_verdict (layout_of c.args.edition).top c.args.m c.args.r c.args.k (length c.args.points.now) in
-    let numbers_are : numbers ≡ c.check_numbers-numbers.result = let a = c.args in
-    sym (c.check_numbers-numbers.ensures ∙ ap (λ (L : Layout). numbers_verdict L.top a.m a.r a.k (length a.points.now)) c.layout_of-layout.ensures) in
-    let fine : numbers ≡ Fine = numbers_are ∙ c.in_default.is in
-    let within : Within (layout_of c.args.edition).top c.args.m c.args.r c.args.k c.args.points.now = code_fine _ _ _ _ _ c.args.row.now c.args.size known fine
-    (sym (verdict_is _ _ _ _ _ c.check_code-checked.ensures) ∙ c.in_default-v.is) in
-    let width : Width c.args.m = within_width _ (laid c.args.edition) _ _ _ _ within in (
+    (
       laid_by _ _ c.layout_of-layout.ensures,
-      width_top _ width,
-      few _ (laid c.args.edition) _ _ _ c.args.points.now within c.args.row.now c.if-row-r.false,
+      width_top _ (width (goal.at.slip_size-requires c).In_default-v),
+      few _ (laid c.args.edition) _ _ _ c.args.points.now (within (goal.at.slip_size-requires c).In_default-v) c.args.row.now c.if-row-r.false,
     )

@@ -6,6 +6,11 @@ use Rattle.defs.specs.Slip.{head_bits}
 use Rattle.slip.proofs.Packed.{header_byte, body_byte}
 use Rattle.slip.proofs.Writer.{within_width, within_fits, within_symbols}
 use Rattle.slip.proofs.write.slip_byte.Goals as goal
+use Rattle.slip.proofs.write.slip_byte.Goals.{After-head_bits-first}
+
+-- where the header's bits are known
+first_is : (c : After-head_bits-first) → c.head_bits-first.result / 8 ≡ head_bits c.args.layout / 8
+first_is c = ap (λ (n : ℕ). n / 8) c.head_bits-first.ensures
 
 pub header-h-requires : goal.header-h-requires
 header-h-requires c = (c.requires.0, within_fits _ c.requires.0 _ _ _ _ c.requires.1)
@@ -19,11 +24,9 @@ pack-requires c = let a = c.args in (
 
 pub returns : goal.returns
 returns c =
-    let first_is : c.head_bits-first.result / 8 ≡ head_bits c.args.layout / 8 = ap (λ (n : ℕ). n / 8) c.head_bits-first.ensures in
-    rw first_is (header_byte _ _ _ _ _ _ c.requires.0 _ _ (omega (arith, first_is, c.if-first-i.false)) c.header-h.ensures)
+    rw (first_is (goal.at.returns c).After-head_bits-first) (header_byte _ _ _ _ _ _ c.requires.0 _ _ (omega (arith, (first_is (goal.at.returns c).After-head_bits-first), c.if-first-i.false)) c.header-h.ensures)
 
 pub returns-then-first-i : goal.returns-then-first-i
 returns-then-first-i c =
-    let first_is : c.head_bits-first.result / 8 ≡ head_bits c.args.layout / 8 = ap (λ (n : ℕ). n / 8) c.head_bits-first.ensures in
     c.pack.ensures
-    ∙ rw first_is (body_byte _ _ _ _ _ _ c.requires.0 _ (omega (arith, first_is, c.if-first-i.true)))
+    ∙ rw (first_is (goal.at.returns-then-first-i c).After-head_bits-first) (body_byte _ _ _ _ _ _ c.requires.0 _ (omega (arith, (first_is (goal.at.returns-then-first-i c).After-head_bits-first), c.if-first-i.true)))
