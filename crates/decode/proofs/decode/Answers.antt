@@ -26,10 +26,10 @@ sizes c = (inside_known _ _ _ _ (inside c)).numbers
 admitted : (c : In_default-rest) → let a = c.args in
     Admitted a.m a.r a.k a.points.now a.row.now a.message.now a.depths.now c.check_code-checked.result.code
 admitted c = record {
-      inside = (inside (goal.at.In_default-rest c).In_default);
-      passed = code_passed _ _ _ _ _ c.check_code-checked.ensures (inside (goal.at.In_default-rest c).In_default);
-      fine = sym c.check_rest-rest.ensures ∙ c.in_default-rest.is;
-    }
+  inside = (inside (goal.at.In_default-rest c).In_default);
+  passed = code_passed _ _ _ _ _ c.check_code-checked.ensures (inside (goal.at.In_default-rest c).In_default);
+  fine = sym c.check_rest-rest.ensures ∙ c.in_default-rest.is;
+}
 
 -- where a message is found
 arrays : (c : In_default-s) → (length c.seek-sought.result.message ≡ longest) × (length c.seek-sought.result.row ≡ longest)

@@ -19,8 +19,7 @@ loop-i-init c = (omega arith, refl, filled_none _ 0 _, distance_none _ _ _, omeg
 
 pub loop-i-preserved : goal.loop-i-preserved
 loop-i-preserved c =
-    let inv = c.loop-i.invariant in
-    (
+    let inv = c.loop-i.invariant in (
       omega arith,
       simp length-set inv.1,
       rw (inv.2, c.chunk_damage-d.ensures) (filled_next _ _ c.loop-i.i (omega (arith, c.requires.1))),

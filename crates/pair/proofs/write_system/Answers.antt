@@ -36,8 +36,7 @@ loop-i-preserved c = let al = c.loop-i in
 
 pub write_chunk-requires-clause-point_bound : goal.write_chunk-requires-clause-point_bound
 write_chunk-requires-clause-point_bound c =
-    let al = c.loop-i in
-    (
+    let al = c.loop-i in (
       eq_lt (code_point c.requires.code al.i c.loop-i-test.true) (code_symbols c.requires.code al.i),
       (numbers (goal.at.write_chunk-requires-clause-point_bound c).In-loop-i).r_pos,
       (numbers (goal.at.write_chunk-requires-clause-point_bound c).In-loop-i).r_top,

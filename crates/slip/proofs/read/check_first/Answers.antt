@@ -4,7 +4,6 @@ use mathlib.Core.Path.{◌≡◌, sym, ◌∙◌}
 use Rattle.defs.specs.Limits.{numbers_verdict}
 use Rattle.defs.specs.Slip.{is_edition}
 use Rattle.defs.specs.declared.Verdict.TheVariants.{Fine}
-use Rattle.slip.specs.declared.Head.{Head}
 use Rattle.slip.proofs.Reader.{head_laid, Opened, first_short, first_edition, first_cut, first_numbers, first_small, first_fine}
 use Rattle.slip.proofs.read.check_first.Goals as goal
 use Rattle.slip.proofs.read.check_first.Goals.{Else-bytes-head_bits, Else-not-is_edition, In_default}
@@ -19,14 +18,12 @@ known c = sym c.is_edition.ensures ∙ c.if-not-is_edition.false
 
 -- where the whole header is there
 opened : (c : Else-bytes-head_bits) → Opened c.args.bytes.now c.head_of-head.result
-opened c =
-    let at : Head = c.head_of-head.result in
-    record {
-      long = c.if-bytes-lt3.false;
-      heads = c.head_of-head.ensures;
-      known = (known (goal.at.Else-bytes-head_bits c).Else-not-is_edition);
-      whole = rw c.head_bits.ensures at c.if-bytes-head_bits.false;
-    }
+opened c = record {
+  long = c.if-bytes-lt3.false;
+  heads = c.head_of-head.ensures;
+  known = (known (goal.at.Else-bytes-head_bits c).Else-not-is_edition);
+  whole = rw c.head_bits.ensures at c.if-bytes-head_bits.false;
+}
 
 pub head_bits-requires : goal.head_bits-requires
 head_bits-requires c = head_laid _ _ c.head_of-head.ensures
@@ -44,7 +41,6 @@ returns-in-Refused c =
 
 pub returns-then-bytes-head_bits : goal.returns-then-bytes-head_bits
 returns-then-bytes-head_bits c =
-    let at : Head = c.head_of-head.result in
     first_cut _ c.if-bytes-lt3.false _ c.head_of-head.ensures (known (goal.at.returns-then-bytes-head_bits c).Else-not-is_edition) (rw c.head_bits.ensures at c.if-bytes-head_bits.true)
 
 pub returns-then-bytes-head_size : goal.returns-then-bytes-head_size

@@ -23,13 +23,12 @@ pub loop-i-init : goal.loop-i-init
 loop-i-init c = (omega arith, refl, filled_none _ _ _)
 
 pub loop-i-preserved : goal.loop-i-preserved
-loop-i-preserved c =
-    (
-      omega arith,
-      simp length-set c.loop-i.invariant.1,
-      rw (c.loop-i.invariant.2, c.read_symbol.ensures)
-          (filled_next c.args.out.now (symbol_at (goal.at.loop-i-preserved c).After-head_bits-start) c.loop-i.i (omega (arith, c.requires.1))),
-    )
+loop-i-preserved c = (
+  omega arith,
+  simp length-set c.loop-i.invariant.1,
+  rw (c.loop-i.invariant.2, c.read_symbol.ensures)
+      (filled_next c.args.out.now (symbol_at (goal.at.loop-i-preserved c).After-head_bits-start) c.loop-i.i (omega (arith, c.requires.1))),
+)
 
 pub read_symbol-requires : goal.read_symbol-requires
 read_symbol-requires c =

@@ -79,9 +79,8 @@ returns-then-size-slip_size c =
     refused_size _ _ _ _ _ _ _ (known (goal.at.returns-then-size-slip_size c).After-layout_of-layout) (within (goal.at.returns-then-size-slip_size c).In_default-v) c.if-row-r.false (rw (size_is (goal.at.returns-then-size-slip_size c).After-slip_size) at c.if-size-slip_size.true)
 
 pub slip_size-requires : goal.slip_size-requires
-slip_size-requires c =
-    (
-      laid_by _ _ c.layout_of-layout.ensures,
-      width_top _ (width (goal.at.slip_size-requires c).In_default-v),
-      few _ (laid c.args.edition) _ _ _ c.args.points.now (within (goal.at.slip_size-requires c).In_default-v) c.args.row.now c.if-row-r.false,
-    )
+slip_size-requires c = (
+  laid_by _ _ c.layout_of-layout.ensures,
+  width_top _ (width (goal.at.slip_size-requires c).In_default-v),
+  few _ (laid c.args.edition) _ _ _ c.args.points.now (within (goal.at.slip_size-requires c).In_default-v) c.args.row.now c.if-row-r.false,
+)

@@ -18,13 +18,12 @@ pub loop-i-init : goal.loop-i-init
 loop-i-init c = (omega arith, refl, filled_none _ _ _)
 
 pub loop-i-preserved : goal.loop-i-preserved
-loop-i-preserved c =
-    (
-      omega arith,
-      simp length-set c.loop-i.invariant.1,
-      rw (c.loop-i.invariant.2, c.slip_byte.ensures)
-          (filled_next c.args.bytes.now (byte_at (goal.at.loop-i-preserved c).At-loop-i) c.loop-i.i (omega (arith, c.requires.size_value.2))),
-    )
+loop-i-preserved c = (
+  omega arith,
+  simp length-set c.loop-i.invariant.1,
+  rw (c.loop-i.invariant.2, c.slip_byte.ensures)
+      (filled_next c.args.bytes.now (byte_at (goal.at.loop-i-preserved c).At-loop-i) c.loop-i.i (omega (arith, c.requires.size_value.2))),
+)
 
 pub returns : goal.returns
 returns c =

@@ -24,12 +24,11 @@ pub loop-left-init : goal.loop-left-init
 loop-left-init c = (omega arith, pack_first c.args.m c.args.i (symbols (goal.at.loop-left-init c).After-field_size-size) c.requires.0)
 
 pub loop-left-preserved : goal.loop-left-preserved
-loop-left-preserved c =
-    (
-      omega arith,
-      rw (c.field_size-size.ensures, c.wide.ensures.0, c.symbol.ensures)
-          (pack_turn c.args.m c.args.i (symbols (goal.at.loop-left-preserved c).After-field_size-size) c.requires.0 c.requires.1 c.loop-left.left c.loop-left.byte c.loop-left-test.true c.loop-left.invariant.0 c.loop-left.invariant.1),
-    )
+loop-left-preserved c = (
+  omega arith,
+  rw (c.field_size-size.ensures, c.wide.ensures.0, c.symbol.ensures)
+      (pack_turn c.args.m c.args.i (symbols (goal.at.loop-left-preserved c).After-field_size-size) c.requires.0 c.requires.1 c.loop-left.left c.loop-left.byte c.loop-left-test.true c.loop-left.invariant.0 c.loop-left.invariant.1),
+)
 
 pub overflow_add-byte : goal.overflow_add-byte
 overflow_add-byte c = omega (arith, (product (goal.at.overflow_add-byte c).At-loop-left), c.wide.ensures.1)

@@ -36,8 +36,7 @@ fill_slip-requires-clause-laid c =
 
 pub fill_slip-requires-clause-size_value : goal.fill_slip-requires-clause-size_value
 fill_slip-requires-clause-size_value c =
-    let e = (size_is (goal.at.fill_slip-requires-clause-size_value c).After-slip_size-size) in
-    (
+    let e = (size_is (goal.at.fill_slip-requires-clause-size_value c).After-slip_size-size) in (
       c.slip_size-size.ensures,
       omega (arith, e, written_top _ _ _ _ _ _ _ (taken (goal.at.fill_slip-requires-clause-size_value c).In_default)),
       omega (arith, e, (taken (goal.at.fill_slip-requires-clause-size_value c).In_default).room),
