@@ -30,7 +30,7 @@ radius-reach-requires c = enough c.requires.code c.requires.row
 
 pub returns : goal.returns
 returns c =
-    near_enough c.requires.code c.requires.row _ _ (pair (goal.at.returns c).In_default) _ c.quotient-message.ensures _ c.row_of-sent.ensures _ c.row_distance-d.ensures _ c.radius-reach.ensures c.if-reach-d.false
+    near_enough c.requires.code c.requires.row _ _ (pair (goal.at.returns c).In_default) _ c.quotient-message.ensures _ c.row_of-sent.ensures _ c.row_distance-d.ensures _ c.radius-reach.ensures (omega (arith, c.if-reach-d.false))
 
 pub returns-in-Refused : goal.returns-in-Refused
 returns-in-Refused c = no_pair_lem c.requires.code c.requires.row _ c.nothing.ensures (pair_none c.requires.code c.requires.row _ _ c.in-Refused.is c.find_pair-paired.ensures)

@@ -20,7 +20,7 @@ overflow_mul-n c = omega (arith, row_small refl refl c.slip_read-found.ensures _
 pub returns : goal.returns
 returns c =
     turned_written refl refl c.slip_read-found.ensures _ c.in_default-a.is (own (goal.at.returns c).In_default) _ c.layout_of-layout.ensures
-    c.requires.1 c.if-layout-n.false c.slip_write.ensures
+    c.requires.1 (omega (arith, c.if-layout-n.false)) c.slip_write.ensures
 
 pub returns-in-Refused : goal.returns-in-Refused
 returns-in-Refused c = turned_refused _ _ _ _ _ (refused_edition _ _ _ _ _ (sym c.check_edition-v.ensures ∙ c.in-Refused.is))
