@@ -6,7 +6,7 @@ archive=target/staticlib/libplq.a
 # symbols KIND: what nm says of the archive's symbols of that kind
 symbols() { nm -g "$1" "$archive" >"$dir/nm" || fail "nm $1 failed on $archive"; }
 
-quiet rt staticlib plq
+quiet tools/archive
 functions include/plq.h >"$dir/declared" || fail "include/plq.h declares no function"
 symbols --defined-only
 awk 'NF == 3 { print $3 }' "$dir/nm" | sort >"$dir/defined"

@@ -129,18 +129,19 @@ example | (cd .. && CDPATH=$PWD "${slipread#"$PWD"/}" >"$dir/out" 2>"$dir/err");
 
 # The program's file is gone
 two_lines() { [ "$(wc -l <"$dir/err")" -eq 2 ] || met "$1" 'two lines of words'; }
-rm target/bin/slipread
+rm crates/slipread/out/slipread
 example | "$slipread" >"$dir/out" 2>"$dir/err"; status=$?
 two_lines 'the program was removed'; troubled 'the program was removed' 0 'slipread: proving and building the program' "$line"
 
-# What else a build can do: a copy of the script beside the program, and a stand-in for rt that does what its file says
+# What else a build can do: a copy of the script beside the program, and a stand-in for rt that does what its file says. As under rt, its
+# words go to standard error, and what the program writes when rt runs it is no line
 tools=$dir/tools small=$dir/small/slipread
-mkdir "$tools" "$dir/small"
+mkdir -p "$tools" "$dir/small/crates/slipread"
 for tool in bash cat dirname env flock head mktemp readlink rm sed setsid tail wc; do ln -s "$(command -v "$tool")" "$tools"; done
 cp slipread "$small"
-cp target/bin/slipread "$dir/built"
+cp crates/slipread/out/slipread "$dir/built"
 small() { PATH=$tools "$small" "$@" >"$dir/out" 2>"$dir/err"; status=$?; }
-stand_in() { printf '%s\n' '#!/bin/sh' "PATH=$PATH" "dir=$dir" "$@" >"$tools/rt" && chmod +x "$tools/rt"; }
+stand_in() { printf '%s\n' '#!/bin/sh' "PATH=$PATH" "dir=$dir" '[ "$*" = run ] && echo "10 0" || exit' 'exec >&2' "$@" >"$tools/rt" && chmod +x "$tools/rt"; }
 small "$dir/files/today.slip"; troubled 'no toolchain' 3 'slipread: the Rattle toolchain is missing'
 mv "$tools/wc" "$dir"; small "$dir/files/today.slip"; troubled 'no wc' 3 'slipread: there is no wc on the PATH'; mv "$dir/wc" "$tools"
 TMPDIR=$dir/none small "$dir/files/today.slip"; troubled 'no temporary folder' 3 'slipread: no temporary folder could be made in '
@@ -148,7 +149,7 @@ TMPDIR=$dir/none small "$dir/files/today.slip"; troubled 'no temporary folder' 3
 mkfifo "$dir/go"
 exec 8<>"$dir/go"
 # shellcheck disable=SC2016
-stand_in 'read -r go <"$dir/go"' "seq -f 'rt: crate %g proved (1 s)' 259" 'mkdir -p target/bin && cp "$dir/built" target/bin/slipread'
+stand_in 'read -r go <"$dir/go"' "seq -f 'fn f%g: proved' 259" 'mkdir -p out && cp "$dir/built" out/slipread'
 rm "$dir/err"
 (small "$dir/files/today.slip"; exit "$status") &
 soon grep -qs 'some minutes' "$dir/err" || fail 'a first build: no word before it ends'
@@ -169,7 +170,7 @@ wait
 stand_in 'exit 0'
 words=$(trap '' XFSZ; ulimit -f 0; PATH=$tools "$small" "$dir/files/today.slip" 2>&1); status=$?
 printf '%s\n' "$words" >"$dir/err"; : >"$dir/out"; troubled 'no room to hold the line' 1 'slipread: no room to hold the line'
-touch "$dir/files/secret" && chmod 0 "$dir/files/secret" && chmod 755 "$dir" "$dir/small" "$tools"
+touch "$dir/files/secret" && chmod 0 "$dir/files/secret" && chmod 755 "$dir" "$tools" && chmod -R a+rX "$dir/small"
 nobody=()
 [ "$(id -u)" -ne 0 ] || nobody=(setpriv --reuid=65534 --regid=65534 --clear-groups)
 PATH=$tools:$PATH "${nobody[@]}" "$small" "$dir/files/secret" >"$dir/out" 2>"$dir/err"; status=$?
@@ -198,7 +199,7 @@ soon flock -n "$dir/small" true || fail 'a signal in a build: what it started st
 stand_in 'exit 0'
 
 # Programs that do not do their part: what they wrote is no line
-program() { printf '%s\n' '#!/bin/sh' "$@" >"$dir/small/target/bin/slipread"; }
+program() { printf '%s\n' '#!/bin/sh' "$@" >"$dir/small/crates/slipread/out/slipread"; }
 program 'exit 5'; small "$dir/files/today.slip"; troubled 'a program that fails' 3 'slipread: the program failed with status 5'
 for wrote in '' '0 2 | 1 2' '0 2\n0 2\n' '0 2\n0 2' '\n0 2'; do
   program "printf '$wrote'"; small "$dir/files/today.slip"

@@ -2,10 +2,11 @@
 # The script rollread prints the line of each slip of a roll and then that of a refusal, if one ends the walk; the program itself
 # does so wherever a roll is cut, however it comes in, and in less memory than the roll has.
 source "$(dirname "$0")/common.bash"
-rollread=$PWD/rollread program=$PWD/target/bin/rollread
+rollread=$PWD/rollread program=$PWD/crates/rollread/out/rollread
 line='0 2 | 1 2 2 1 | 1 0 1 0'
 count=0
 
+same slipread rollread # one text under two names
 quiet "$rollread" /dev/null
 quiet "$rollread" --help
 grep -q 'each slip of the roll' "$dir/words" || fail 'rollread --help does not speak of rolls'

@@ -10,7 +10,7 @@ fn main() {
     println!("cargo:rerun-if-changed={}", archive.display());
     assert!(
         archive.is_file(),
-        "there is no {}: build it with `rt staticlib plq`, or name its directory in PLQ_LIB_DIR",
+        "there is no {}: build it with `tools/archive`, or name its directory in PLQ_LIB_DIR",
         archive.display()
     );
     println!("cargo:rustc-link-search=native={}", dir.display());

@@ -1,11 +1,13 @@
 // The number and the detail of an answer, as numbers.
-ghost use mathlib.Core.Path.{_≡_};
-ghost use Rattle·defs.specs.Refusal.{numberOf, placeOf, number, detail};
-use defs::Answer;
-use defs::Refusal;
+#![tactic(auto)]
+
+ghost use Rattle.std.specs.Prelude.{◌≡◌};
+ghost use Rattle.defs.specs.Refusal.{number_of, place_of, number, detail};
+
+use defs::{Answer, Refusal};
 
 fn number_of(x: Refusal) -> usize
-    ensures { λ n. ⌜ n ≡ numberOf x ⌝ }
+    ensures { result ≡ number_of x }
 {
     match x {
         Refusal::Field => 1,
@@ -28,7 +30,7 @@ fn number_of(x: Refusal) -> usize
 }
 
 fn place_of(x: Refusal) -> usize
-    ensures { λ n. ⌜ n ≡ placeOf x ⌝ }
+    ensures { result ≡ place_of x }
 {
     match x {
         Refusal::Field => 0,
@@ -52,7 +54,7 @@ fn place_of(x: Refusal) -> usize
 
 // The number of an answer.
 pub fn number_in(a: Answer) -> usize
-    ensures { λ n. ⌜ n ≡ number a ⌝ }
+    ensures { result ≡ number a }
 {
     match a {
         Answer::Done(_) => 0,
@@ -62,7 +64,7 @@ pub fn number_in(a: Answer) -> usize
 
 // The detail of an answer.
 pub fn detail_in(a: Answer) -> usize
-    ensures { λ d. ⌜ d ≡ detail a ⌝ }
+    ensures { result ≡ detail a }
 {
     match a {
         Answer::Done(d) => d,

@@ -1,7 +1,11 @@
 // Frames on standard input: a byte for the call, then its numbers in eight bytes each, then its slices, each behind its length in
 // two bytes. Low bytes come first. An input that ends too soon counts as zeros.
-ghost use Prim.Native.Nat.{_<_};
-ghost use Rattle·io.specs.Counts.{Counts};
+ghost use Rattle.std.specs.Prelude.{◌≡◌, ◌<◌, length};
+ghost use Rattle.std.specs.Io.{ReadsAtMost};
+
+use printing::read_full;
+use std::io;
+use std::io::Read;
 
 pub const ENCODE: u8 = 1;
 
@@ -29,43 +33,45 @@ pub const LEVELS_WRITE: u8 = 11;
 pub const ROOM: usize = 600;
 
 pub fn wide(x: u8) -> usize
-    ensures { λ r. ⌜ r < 256 ⌝ }
+    ensures { result < 256 }
 {
     x as usize
 }
 
 // The next call, 0 where the input ends.
-pub fn call() -> u8 {
+pub fn call(input: &mut impl Read) -> io::Result<u8> {
     let mut b = [0u8; 1];
-    io::read_full(0, &mut b);
-    b[0]
+    read_full(input, &mut b)?;
+    Ok(b[0])
 }
 
 // A number, 0 where the frame has none.
-pub fn number(there: bool) -> usize {
+pub fn number(input: &mut impl Read, there: bool) -> io::Result<usize> {
     if !there {
-        return 0;
+        return Ok(0);
     }
     let mut b = [0u8; 8];
-    io::read_full(0, &mut b);
+    read_full(input, &mut b)?;
     let low = wide(b[0]) + wide(b[1]) * 256 + wide(b[2]) * 65536 + wide(b[3]) * 16777216;
     let high = wide(b[4]) + wide(b[5]) * 256 + wide(b[6]) * 65536 + wide(b[7]) * 16777216;
-    low + high * 4294967296
+    Ok(low + high * 4294967296)
 }
 
-// Puts a slice at the front of s and says how long it is: 0 where the frame has none, or there is no room for it.
-pub fn slice(there: bool, s: &mut [u8]) -> usize
-    ensures { λ n. ⌜ Counts n (now (s .exit)) ⌝ }
+// Puts a slice at the front of s and says how long it is: 0 where the frame has none, or there is no room for it. Where a read
+// fails, s may be written in part.
+pub fn slice(input: &mut impl Read, there: bool, s: &mut [u8]) -> io::Result<usize>
+    ensures front { ReadsAtMost result s.new }
+    ensures size { length s.new ≡ length s.old }
 {
     if !there {
-        return 0;
+        return Ok(0);
     }
     let mut b = [0u8; 2];
-    io::read_full(0, &mut b);
+    read_full(input, &mut b)?;
     let n = wide(b[0]) + wide(b[1]) * 256;
     if s.len() < n {
-        return 0;
+        return Ok(0);
     }
-    io::read_full(0, &mut s[..n]);
-    n
+    read_full(input, &mut s[..n])?;
+    Ok(n)
 }

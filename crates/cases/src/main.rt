@@ -1,21 +1,17 @@
 // Runs each case on standard input through its call and prints a line for it: what the call answered, and what its buffers hold
 // afterwards. Cases and lines were made by the second program; those worked by hand come first.
+#![tactic(auto)]
+
 mod calls;
 mod frame;
 mod show;
 
-use frame::DECODE;
-use frame::DISTANCE;
-use frame::ENCODE;
-use frame::LEVELS_READ;
-use frame::LEVELS_WRITE;
-use frame::LINE;
-use frame::ROLL_FIRST;
-use frame::ROOM;
-use frame::SLIP_READ;
-use frame::SLIP_WRITE;
-use frame::TO_NEW;
-use frame::TO_OLD;
+use frame::{
+    DECODE, DISTANCE, ENCODE, LEVELS_READ, LEVELS_WRITE, LINE, ROLL_FIRST, ROOM, SLIP_READ,
+    SLIP_WRITE, TO_NEW, TO_OLD,
+};
+use std::io;
+use std::io::Read;
 
 // More cases than any input has.
 const MOST: usize = 100000;
@@ -32,6 +28,7 @@ fn leveled(call: u8) -> bool {
 
 // Each arm returns: no fact about the buffers has to be carried past the match.
 fn make(
+    rt: &impl Print,
     call: u8,
     edition: usize,
     m: usize,
@@ -41,38 +38,39 @@ fn make(
     second: &[u8],
     buffer: &mut [u8],
     other: &mut [u8],
-) {
+) -> io::Result<()> {
     match call {
-        ENCODE => return calls::encode(m, r, k, first, second, buffer),
-        DECODE => return calls::decode(m, r, k, first, second, buffer, other),
-        DISTANCE => return calls::distance(r, first, second),
-        SLIP_WRITE => return calls::slip_write(edition, m, r, k, first, second, buffer),
-        SLIP_READ => return calls::slip_read(first, buffer, other),
-        LINE => return calls::line(first, buffer),
-        TO_NEW => return calls::to_new(first, buffer),
-        TO_OLD => return calls::to_old(first, buffer),
-        LEVELS_READ => return calls::levels_read(m, r, first, buffer),
-        LEVELS_WRITE => return calls::levels_write(m, r, first, buffer),
-        _ => return calls::roll_first(first),
+        ENCODE => return calls::encode(rt, m, r, k, first, second, buffer),
+        DECODE => return calls::decode(rt, m, r, k, first, second, buffer, other),
+        DISTANCE => return calls::distance(rt, r, first, second),
+        SLIP_WRITE => return calls::slip_write(rt, edition, m, r, k, first, second, buffer),
+        SLIP_READ => return calls::slip_read(rt, first, buffer, other),
+        LINE => return calls::line(rt, first, buffer),
+        TO_NEW => return calls::to_new(rt, first, buffer),
+        TO_OLD => return calls::to_old(rt, first, buffer),
+        LEVELS_READ => return calls::levels_read(rt, m, r, first, buffer),
+        LEVELS_WRITE => return calls::levels_write(rt, m, r, first, buffer),
+        _ => return calls::roll_first(rt, first),
     }
 }
 
 // Reads what the call takes, makes it and ends its line.
-fn run(call: u8) {
+fn run(rt: &impl Print, input: &mut impl Read, call: u8) -> io::Result<()> {
     let mut first = [0u8; ROOM];
     let mut second = [0u8; ROOM];
     let mut buffer = [0u8; ROOM];
     let mut other = [0u8; ROOM];
     let two_inputs = coded(call) || call == DISTANCE;
-    let edition = frame::number(call == SLIP_WRITE);
-    let m = frame::number(coded(call) || leveled(call));
-    let r = frame::number(two_inputs || leveled(call));
-    let k = frame::number(coded(call));
-    let a = frame::slice(true, &mut first);
-    let b = frame::slice(two_inputs, &mut second);
-    let c = frame::slice(call != DISTANCE && call != ROLL_FIRST, &mut buffer);
-    let d = frame::slice(call == DECODE || call == SLIP_READ, &mut other);
+    let edition = frame::number(input, call == SLIP_WRITE)?;
+    let m = frame::number(input, coded(call) || leveled(call))?;
+    let r = frame::number(input, two_inputs || leveled(call))?;
+    let k = frame::number(input, coded(call))?;
+    let a = frame::slice(input, true, &mut first)?;
+    let b = frame::slice(input, two_inputs, &mut second)?;
+    let c = frame::slice(input, call != DISTANCE && call != ROLL_FIRST, &mut buffer)?;
+    let d = frame::slice(input, call == DECODE || call == SLIP_READ, &mut other)?;
     make(
+        rt,
         call,
         edition,
         m,
@@ -82,19 +80,21 @@ fn run(call: u8) {
         &second[..b],
         &mut buffer[..c],
         &mut other[..d],
-    );
-    io::write_all(1, b"\n");
+    )?;
+    println!(rt)
 }
 
 // Nothing says that the input ends, so the cases are counted.
-fn main() {
+fn main(rt: HostRuntime) -> io::Result<()> {
+    let mut input = rt.stdin();
     let mut left = MOST;
     while 0 < left {
-        let call = frame::call();
+        let call = frame::call(&mut input)?;
         if call < ENCODE || LEVELS_WRITE < call {
-            return;
+            return Ok(());
         }
-        run(call);
+        run(&rt, &mut input, call)?;
         left -= 1;
     }
+    Ok(())
 }

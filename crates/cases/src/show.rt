@@ -1,46 +1,47 @@
 // The line of a case: number and detail, the reader's five numbers, and each buffer in hexadecimal, with single spaces between.
-use crate::frame::wide;
-use defs::Answer;
-use defs::SlipRead;
+use defs::{Answer, SlipRead};
+use std::io;
 
-fn number(x: usize) {
-    io::print_decimal(1, x as u64);
+fn number(rt: &impl Print, x: usize) -> io::Result<()> {
+    print!(rt; "{x}")
 }
 
 // Two digits for each byte, a bar for none.
-pub fn buffer(s: &[u8]) {
-    io::write_all(1, b" ");
+pub fn buffer(rt: &impl Print, s: &[u8]) -> io::Result<()> {
+    print!(rt; " ")?;
     if s.len() == 0 {
-        io::write_all(1, b"-");
+        print!(rt; "-")?;
     }
     let mut i = 0;
     while i < s.len() {
-        io::print_hex(1, wide(s[i]) as u64, 2);
+        let x = s[i];
+        print!(rt; "{x:02x}")?;
         i += 1;
     }
+    Ok(())
 }
 
-pub fn numbers(a: usize, b: usize) {
-    number(a);
-    io::write_all(1, b" ");
-    number(b);
+pub fn numbers(rt: &impl Print, a: usize, b: usize) -> io::Result<()> {
+    number(rt, a)?;
+    print!(rt; " ")?;
+    number(rt, b)
 }
 
-pub fn answer(a: Answer) {
-    numbers(answers::number_in(a), answers::detail_in(a));
+pub fn answer(rt: &impl Print, a: Answer) -> io::Result<()> {
+    numbers(rt, answers::number_in(a), answers::detail_in(a))
 }
 
-pub fn reading(s: SlipRead) {
+pub fn reading(rt: &impl Print, s: SlipRead) -> io::Result<()> {
     let a = s.answer;
-    answer(a);
-    io::write_all(1, b" ");
-    number(s.edition);
-    io::write_all(1, b" ");
-    number(s.m);
-    io::write_all(1, b" ");
-    number(s.r);
-    io::write_all(1, b" ");
-    number(s.count);
-    io::write_all(1, b" ");
-    number(s.k);
+    answer(rt, a)?;
+    print!(rt; " ")?;
+    number(rt, s.edition)?;
+    print!(rt; " ")?;
+    number(rt, s.m)?;
+    print!(rt; " ")?;
+    number(rt, s.r)?;
+    print!(rt; " ")?;
+    number(rt, s.count)?;
+    print!(rt; " ")?;
+    number(rt, s.k)
 }

@@ -1,13 +1,11 @@
 // Bytes handed over in a caller's buffer.
-ghost use mathlib.Core.Path.{_≡_};
-ghost use Prim.Native.Nat.{_≤_};
-ghost use lib.ListN.{length};
-ghost use Rattle·defs.specs.Write.{front};
+ghost use Rattle.std.specs.Prelude.{◌≡◌, ◌≤◌, length};
+ghost use Rattle.defs.specs.Write.{front};
 
 // Copies bytes to the front of a buffer that has room for them.
 pub fn copy(bytes: &[u8], buffer: &mut [u8])
-    requires { ⌜ length (now bytes) ≤ length (now buffer) ⌝ }
-    ensures { λ _. ⌜ now (buffer .exit) ≡ front (now (bytes .entry)) (now (buffer .entry)) ⌝ }
+    requires { length bytes.now ≤ length buffer.old }
+    ensures { buffer.new ≡ front bytes.now buffer.old }
 {
     let mut i = 0;
     while i < bytes.len() {

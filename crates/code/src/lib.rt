@@ -1,24 +1,22 @@
 // The check of a code: refusals 1 to 6 in their order, and the code as one value with its points inside it.
+#![tactic(auto)]
+
 mod buffer;
 mod chunk;
 
+ghost use Rattle.std.specs.Prelude.{◌≡◌, ◌≤◌, length};
+ghost use Rattle.defs.specs.Field.{Width};
+ghost use Rattle.defs.specs.Place.{first_high};
+ghost use Rattle.defs.specs.Limits.{is_width, longest, numbers_verdict, first_twice};
+ghost use Rattle.defs.specs.Encode.{symbols_verdict};
+ghost use Rattle.code.specs.Checked.{padded, refused_with, checked};
+
 pub use buffer::copy;
 pub use chunk::chunk_of;
-ghost use mathlib.Core.Path.{_≡_};
-ghost use Prim.Native.Nat.{_≤_};
-ghost use lib.ListN.{length};
-ghost use Rattle·defs.specs.Field.{Width};
-ghost use Rattle·defs.specs.Place.{firstHigh};
-ghost use Rattle·defs.specs.Limits.{isWidth, longest, numbersVerdict, firstTwice};
-ghost use Rattle·defs.specs.Encode.{symbolsVerdict};
-ghost use Rattle·code·specs.specs.Checked.{padded, refusedWith, checked};
-use defs::Code;
-use defs::DEEPEST;
-use defs::LONGEST;
-use defs::Refusal;
-use defs::Verdict;
+use defs::{Code, DEEPEST, LONGEST, Refusal, Verdict};
 
 // What the check of a code finds. The code is all zeros where it is refused.
+#[derive(Drop)]
 pub struct Checked {
     pub verdict: Verdict,
     pub code: Code,
@@ -26,7 +24,7 @@ pub struct Checked {
 
 // Whether m is 2, 4 or 8.
 pub fn is_width(m: usize) -> bool
-    ensures { λ b. ⌜ b ≡ isWidth m ⌝ }
+    ensures { result ≡ is_width m }
 {
     if m == 2 {
         return true;
@@ -39,8 +37,8 @@ pub fn is_width(m: usize) -> bool
 
 // The least index of a symbol outside the field, and the length where there is none.
 pub fn first_high(m: usize, s: &[u8]) -> usize
-    requires { ⌜ Width m ⌝ }
-    ensures { λ i. ⌜ i ≡ firstHigh m (now (s .entry)) ⌝ }
+    requires { Width m }
+    ensures { result ≡ first_high m s.now }
 {
     let size = field::field_size(m);
     let mut i = 0;
@@ -55,7 +53,7 @@ pub fn first_high(m: usize, s: &[u8]) -> usize
 
 // The least index whose point equals an earlier one, and the length where there is none. seen marks the points passed.
 pub fn first_twice(points: &[u8]) -> usize
-    ensures { λ i. ⌜ i ≡ firstTwice (now (points .entry)) ⌝ }
+    ensures { result ≡ first_twice points.now }
 {
     let mut seen = [0u8; 256];
     let mut i = 0;
@@ -72,8 +70,8 @@ pub fn first_twice(points: &[u8]) -> usize
 
 // 8, on the symbols of a message or a row.
 pub fn check_symbols(m: usize, s: &[u8]) -> Verdict
-    requires { ⌜ Width m ⌝ }
-    ensures { λ v. ⌜ v ≡ symbolsVerdict m (now (s .entry)) ⌝ }
+    requires { Width m }
+    ensures { result ≡ symbols_verdict m s.now }
 {
     let high = first_high(m, s);
     if high < s.len() {
@@ -84,7 +82,7 @@ pub fn check_symbols(m: usize, s: &[u8]) -> Verdict
 
 // 1 to 4, on the numbers alone. top is the longest row allowed.
 pub fn check_numbers(top: usize, m: usize, r: usize, k: usize, count: usize) -> Verdict
-    ensures { λ v. ⌜ v ≡ numbersVerdict top m r k count ⌝ }
+    ensures { result ≡ numbers_verdict top m r k count }
 {
     if !is_width(m) {
         return Verdict::Refused(Refusal::Field);
@@ -116,8 +114,8 @@ pub fn check_numbers(top: usize, m: usize, r: usize, k: usize, count: usize) -> 
 
 // The points, with zeros behind them.
 fn pad(points: &[u8]) -> [u8; LONGEST]
-    requires { ⌜ length (now points) ≤ longest ⌝ }
-    ensures { λ a. ⌜ a ≡ padded (now (points .entry)) ⌝ }
+    requires { length points.now ≤ longest }
+    ensures { result ≡ padded points.now }
 {
     let mut a = [0u8; LONGEST];
     copy(points, &mut a);
@@ -126,7 +124,7 @@ fn pad(points: &[u8]) -> [u8; LONGEST]
 
 // A refusal, with the code of zeros beside it.
 fn refused(x: Refusal) -> Checked
-    ensures { λ c. ⌜ c ≡ refusedWith x ⌝ }
+    ensures { result ≡ refused_with x }
 {
     let points = [0u8; LONGEST];
     let code = Code {
@@ -144,7 +142,7 @@ fn refused(x: Refusal) -> Checked
 
 // Checks m, r, k and a list of points, none of which is trusted.
 pub fn check_code(m: usize, r: usize, k: usize, points: &[u8]) -> Checked
-    ensures { λ c. ⌜ c ≡ checked m r k (now (points .entry)) ⌝ }
+    ensures { result ≡ checked m r k points.now }
 {
     let v = check_numbers(LONGEST, m, r, k, points.len());
     if let Verdict::Refused(x) = v {

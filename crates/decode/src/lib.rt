@@ -1,23 +1,20 @@
 // Decode: what the quotient of a pair is gets measured against the row; and the call.
-ghost use mathlib.Core.Path.{_≡_};
-ghost use Prim.Native.Nat.{_≤_};
-ghost use lib.ListN.{length};
-ghost use Rattle·defs.specs.Field.{Width};
-ghost use Rattle·defs.specs.Decode.{Decoded};
-ghost use Rattle·code.specs.Checked.{IsCode};
-ghost use Rattle·rows.specs.Chunk.{Rows};
-ghost use Rattle·pair.specs.Found.{IsRow};
-ghost use Rattle·decode·specs.specs.Search.{restVerdict, Candidate, Sent, IsSought, Measured};
-use defs::Answer;
-use defs::Code;
-use defs::LONGEST;
-use defs::Refusal;
-use defs::Verdict;
+#![tactic(auto)]
+
+ghost use Rattle.std.specs.Prelude.{◌≡◌, ◌≤◌, length};
+ghost use Rattle.defs.specs.Field.{Width};
+ghost use Rattle.defs.specs.Decode.{Decoded};
+ghost use Rattle.code.specs.Checked.{IsCode};
+ghost use Rattle.rows.specs.Chunk.{Rows};
+ghost use Rattle.pair.specs.Found.{IsRow};
+ghost use Rattle.decode.specs.Search.{rest_verdict, Candidate, Sent, IsSought, Measured};
+
+use defs::{Answer, Code, LONGEST, Refusal, Verdict};
 
 // The row of a message of the code, of n symbols.
 fn row_of(code: Code, message: [u8; LONGEST], n: usize) -> [u8; LONGEST]
-    requires { ⌜ Candidate code message n ⌝ }
-    ensures { λ u. ⌜ Sent code message n u ⌝ }
+    requires { Candidate code message n }
+    ensures { Sent code message n result }
 {
     let k = code.k;
     let mut row = [0u8; LONGEST];
@@ -26,6 +23,7 @@ fn row_of(code: Code, message: [u8; LONGEST], n: usize) -> [u8; LONGEST]
 }
 
 // A message near to a row, and its own row, where the verdict is fine.
+#[derive(Drop)]
 pub struct Sought {
     pub verdict: Verdict,
     pub message: [u8; LONGEST],
@@ -33,7 +31,7 @@ pub struct Sought {
 }
 
 fn nothing(v: Verdict, blank: [u8; LONGEST]) -> Sought
-    ensures { λ s. ⌜ s .verdict ≡ v ⌝ }
+    ensures { result.verdict ≡ v }
 {
     Sought {
         verdict: v,
@@ -44,9 +42,9 @@ fn nothing(v: Verdict, blank: [u8; LONGEST]) -> Sought
 
 // Looks for the message near to a row: the quotient of a pair, measured.
 fn seek(code: Code, row: &[u8]) -> Sought
-    requires { ⌜ IsCode code ⌝ }
-    requires { ⌜ IsRow code (now row) ⌝ }
-    ensures { λ s. ⌜ IsSought code (now (row .entry)) s ⌝ }
+    requires code { IsCode code }
+    requires row { IsRow code row.now }
+    ensures { IsSought code row.now result }
 {
     let blank = [0u8; LONGEST];
     let n = row.len();
@@ -76,8 +74,8 @@ fn seek(code: Code, row: &[u8]) -> Sought
 
 // Writes the depths of damage in count chunks, and answers their sum.
 fn write_depths(r: usize, count: usize, sent: &[u8], row: &[u8], depths: &mut [u8]) -> usize
-    requires { ⌜ Rows r count (now sent) (now row) × (count ≤ length (now depths)) ⌝ }
-    ensures { λ t. ⌜ Measured r count (now (sent .entry)) (now (row .entry)) (now (depths .entry)) t (now (depths .exit)) ⌝ }
+    requires { Rows r count sent.now row.now × (count ≤ length depths.old) }
+    ensures { Measured r count sent.now row.now depths.old result depths.new }
 {
     let mut total = 0;
     let mut i = 0;
@@ -100,8 +98,8 @@ fn check_rest(
     size: usize,
     deep: usize,
 ) -> Verdict
-    requires { ⌜ Width m ⌝ }
-    ensures { λ v. ⌜ v ≡ restVerdict m n k count (now (row .entry)) size deep ⌝ }
+    requires { Width m }
+    ensures { result ≡ rest_verdict m n k count row.now size deep }
 {
     if row.len() != n {
         return Verdict::Refused(Refusal::Length);
@@ -125,7 +123,7 @@ pub fn decode(
     message: &mut [u8],
     depths: &mut [u8],
 ) -> Answer
-    ensures { λ a. ⌜ Decoded m r k (now (points .entry)) (now (row .entry)) (now (message .entry)) (now (depths .entry)) a (now (message .exit)) (now (depths .exit)) ⌝ }
+    ensures { Decoded m r k points.now row.now message.old depths.old result message.new depths.new }
 {
     let checked = code::check_code(m, r, k, points);
     let v = checked.verdict;

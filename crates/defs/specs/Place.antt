@@ -1,9 +1,5 @@
 -- Places: the least index that passes a test, the list of a function's first values, and their sum.
-use Prim.Native.Nat.{ℕ, zero, suc, _+_, _^_, _<_}
-use mathlib.Core.Bool.{Bool, cond}
-use mathlib.Core.List.{List, [], _∷_}
-use lib.Dec.{leb}
-use lib.ListN.{length, getD}
+use Rattle.std.specs.Prelude.{ℕ, zero, suc, ◌+◌, ◌^◌, ◌<◌, Bool, cond, List, [], ◌∷◌, leb, length, get_or}
 
 -- the least i below n with p i, and n where there is none
 unfoldable pub least : (ℕ → Bool) → ℕ → ℕ
@@ -22,8 +18,8 @@ total (suc n) F = total n F + F n
 
 -- all of s are symbols of the field with 2 ^ m elements
 abbrev pub Symbols : ℕ → List ℕ → Type 0
-Symbols m s = (i : ℕ) → getD s i 0 < 2 ^ m
+Symbols m s = (i : ℕ) → get_or s i 0 < 2 ^ m
 
 -- the least index of a symbol that is 2 ^ m or more, and the length where there is none
-unfoldable pub firstHigh : ℕ → List ℕ → ℕ
-firstHigh m s = least (λ i. leb (2 ^ m) (getD s i 0)) (length s)
+unfoldable pub first_high : ℕ → List ℕ → ℕ
+first_high m s = least (λ i. leb (2 ^ m) (get_or s i 0)) (length s)

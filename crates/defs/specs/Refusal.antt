@@ -1,57 +1,55 @@
 -- The number and the detail of each answer, and how checks follow one another.
-use Prim.Native.Nat.{ℕ}
-use mathlib.Core.Bool.{Bool, true, false}
-use mathlib.Core.List.{List}
-use Rattle·defs·specs.specs.declared.Refusal.{Refusal}
-use Rattle·defs·specs.specs.declared.Refusal.the-variants.{Field, Depth, Points, Dimension, PointHigh, PointTwice, Length, SymbolHigh, TooFar, SlipShort, Edition, SlipLong, SlipBits, RowLong, LevelLine, LevelHigh}
-use Rattle·defs·specs.specs.declared.Verdict.{Verdict}
-use Rattle·defs·specs.specs.declared.Verdict.the-variants.{Fine, Refused}
-use Rattle·defs·specs.specs.declared.Answer.{Answer}
-use Rattle·defs·specs.specs.declared.Answer.the-variants.{Done, Refused as No}
+use Rattle.std.specs.Prelude.{ℕ, Bool, true, false, List}
+use Rattle.defs.specs.declared.Refusal.{Refusal}
+use Rattle.defs.specs.declared.Refusal.TheVariants.{Field, Depth, Points, Dimension, PointHigh, PointTwice, Length, SymbolHigh, TooFar, SlipShort, Edition, SlipLong, SlipBits, RowLong, LevelLine, LevelHigh}
+use Rattle.defs.specs.declared.Verdict.{Verdict}
+use Rattle.defs.specs.declared.Verdict.TheVariants.{Fine, Refused}
+use Rattle.defs.specs.declared.Answer.{Answer}
+use Rattle.defs.specs.declared.Answer.TheVariants.{Done, Refused as No}
 
-abbrev pub numberOf : Refusal → ℕ
-numberOf Field = 1
-numberOf Depth = 2
-numberOf Points = 3
-numberOf Dimension = 4
-numberOf (PointHigh i) = 5
-numberOf (PointTwice i) = 6
-numberOf Length = 7
-numberOf (SymbolHigh i) = 8
-numberOf TooFar = 9
-numberOf SlipShort = 10
-numberOf Edition = 11
-numberOf SlipLong = 12
-numberOf SlipBits = 13
-numberOf RowLong = 15
-numberOf (LevelLine i) = 17
-numberOf (LevelHigh i) = 18
+abbrev pub number_of : Refusal → ℕ
+number_of Field = 1
+number_of Depth = 2
+number_of Points = 3
+number_of Dimension = 4
+number_of (PointHigh i) = 5
+number_of (PointTwice i) = 6
+number_of Length = 7
+number_of (SymbolHigh i) = 8
+number_of TooFar = 9
+number_of SlipShort = 10
+number_of Edition = 11
+number_of SlipLong = 12
+number_of SlipBits = 13
+number_of RowLong = 15
+number_of (LevelLine i) = 17
+number_of (LevelHigh i) = 18
 
-abbrev pub placeOf : Refusal → ℕ
-placeOf Field = 0
-placeOf Depth = 0
-placeOf Points = 0
-placeOf Dimension = 0
-placeOf (PointHigh i) = i
-placeOf (PointTwice i) = i
-placeOf Length = 0
-placeOf (SymbolHigh i) = i
-placeOf TooFar = 0
-placeOf SlipShort = 0
-placeOf Edition = 0
-placeOf SlipLong = 0
-placeOf SlipBits = 0
-placeOf RowLong = 0
-placeOf (LevelLine i) = i
-placeOf (LevelHigh i) = i
+abbrev pub place_of : Refusal → ℕ
+place_of Field = 0
+place_of Depth = 0
+place_of Points = 0
+place_of Dimension = 0
+place_of (PointHigh i) = i
+place_of (PointTwice i) = i
+place_of Length = 0
+place_of (SymbolHigh i) = i
+place_of TooFar = 0
+place_of SlipShort = 0
+place_of Edition = 0
+place_of SlipLong = 0
+place_of SlipBits = 0
+place_of RowLong = 0
+place_of (LevelLine i) = i
+place_of (LevelHigh i) = i
 
 abbrev pub number : Answer → ℕ
 number (Done d) = 0
-number (No x) = numberOf x
+number (No x) = number_of x
 
 abbrev pub detail : Answer → ℕ
 detail (Done d) = d
-detail (No x) = placeOf x
+detail (No x) = place_of x
 
 -- x where the test holds, and else what comes after
 unfoldable pub refuse : Bool → Refusal → Verdict → Verdict
@@ -59,9 +57,9 @@ refuse true x v = Refused x
 refuse false x v = v
 
 -- the first verdict, and where that is fine the second
-unfoldable pub andThen : Verdict → Verdict → Verdict
-andThen Fine v = v
-andThen (Refused x) v = Refused x
+unfoldable pub and_then : Verdict → Verdict → Verdict
+and_then Fine v = v
+and_then (Refused x) v = Refused x
 
 -- a call that passes its checks is done with the detail d
 unfoldable pub answer : Verdict → ℕ → Answer

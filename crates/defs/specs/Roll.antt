@@ -1,26 +1,22 @@
 -- A roll: slips one behind another. Where the first one ends, the two parts, and the walk over the whole.
-use Prim.Native.Nat.{ℕ, zero, suc}
-use mathlib.Core.Bool.{cond}
-use mathlib.Core.List.{List, [], _∷_, _++_}
-use lib.Dec.{eqb}
-use lib.ListN.{length, take, drop}
-use Rattle·defs·specs.specs.Refusal.{kept}
-use Rattle·defs·specs.specs.Slip.{sizeIn}
-use Rattle·defs·specs.specs.Read.{firstVerdict}
-use Rattle·defs·specs.specs.declared.Verdict.{Verdict}
-use Rattle·defs·specs.specs.declared.Verdict.the-variants.{Fine}
+use Rattle.std.specs.Prelude.{ℕ, zero, suc, cond, List, [], ◌∷◌, ◌++◌, eqb, length, take, drop}
+use Rattle.defs.specs.Refusal.{kept}
+use Rattle.defs.specs.Slip.{size_in}
+use Rattle.defs.specs.Read.{first_verdict}
+use Rattle.defs.specs.declared.Verdict.{Verdict}
+use Rattle.defs.specs.declared.Verdict.TheVariants.{Fine}
 
 -- an empty roll is done, another one begins with a slip or is refused
-unfoldable pub rollVerdict : List ℕ → Verdict
-rollVerdict [] = Fine
-rollVerdict (b ∷ s) = firstVerdict (b ∷ s)
+unfoldable pub roll_verdict : List ℕ → Verdict
+roll_verdict [] = Fine
+roll_verdict (b ∷ s) = first_verdict (b ∷ s)
 
 -- the bytes of the first slip, none on a refusal, and what stands behind them
-unfoldable pub firstPart : List ℕ → List ℕ
-firstPart roll = kept (rollVerdict roll) (take (sizeIn roll) roll) []
+unfoldable pub first_part : List ℕ → List ℕ
+first_part roll = kept (roll_verdict roll) (take (size_in roll) roll) []
 
-unfoldable pub restPart : List ℕ → List ℕ
-restPart roll = kept (rollVerdict roll) (drop (sizeIn roll) roll) roll
+unfoldable pub rest_part : List ℕ → List ℕ
+rest_part roll = kept (roll_verdict roll) (drop (size_in roll) roll) roll
 
 -- what a walk finds: the slips in their order, what is left behind them, and done or the refusal that ended it
 pub record Walk : Type 0 where
@@ -28,20 +24,20 @@ pub record Walk : Type 0 where
   pub left : List ℕ
   pub ended : Verdict
 
-unfoldable pub walkEnd : List ℕ → Walk
-walkEnd roll = record { slips = []; left = roll; ended = rollVerdict roll }
+unfoldable pub walk_end : List ℕ → Walk
+walk_end roll = record { slips = []; left = roll; ended = roll_verdict roll }
 
-unfoldable pub walkOn : List ℕ → Walk → Walk
-walkOn slip w = record { slips = slip ∷ w .slips; left = w .left; ended = w .ended }
+unfoldable pub walk_on : List ℕ → Walk → Walk
+walk_on slip w = record { slips = slip ∷ w.slips; left = w.left; ended = w.ended }
 
 -- as many slips as there are, but at most t
-unfoldable pub walkFor : ℕ → List ℕ → Walk
-walkFor zero roll = walkEnd roll
-walkFor (suc t) roll = cond (eqb (length (firstPart roll)) 0) (walkEnd roll) (walkOn (firstPart roll) (walkFor t (restPart roll)))
+unfoldable pub walk_for : ℕ → List ℕ → Walk
+walk_for zero roll = walk_end roll
+walk_for (suc t) roll = cond (eqb (length (first_part roll)) 0) (walk_end roll) (walk_on (first_part roll) (walk_for t (rest_part roll)))
 
 -- a slip is not empty, so there are no more slips than bytes
 unfoldable pub walk : List ℕ → Walk
-walk roll = walkFor (length roll) roll
+walk roll = walk_for (length roll) roll
 
 -- slips one behind another
 unfoldable pub joined : List (List ℕ) → List ℕ

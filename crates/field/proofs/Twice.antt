@@ -1,19 +1,19 @@
 -- Doubling an element without a table: twice the number, and where that reaches 2 ^ m, twice what is above half of it with the modulus added.
-use mathlib.Core.Path.{_≡_, sym, ap, ap₂, _∙_}
+use mathlib.Core.Path.{◌≡◌, sym, ap, ap₂, ◌∙◌}
 use mathlib.Core.Logic.{inl, inr}
-use Prim.Native.Nat.{ℕ, _+_, _*_, _-_, _/_, _%_, _^_, _<_, _≤_}
-use native.Mathlib.Nat.{zero-mul, one-mul, div-eq-of-lt, div-eq-of-lt-le, mod-eq-of-lt}
+use Prim.Native.Nat.{ℕ, ◌+◌, ◌*◌, ◌-◌, ◌/◌, ◌%◌, ◌^◌, ◌<◌, ◌≤◌}
+use native.Mathlib.Nat.{zero-mul, one-mul, div-eq_of_lt, div-eq_of_lt-le, mod-eq_of_lt}
 use native.Mathlib.Omega.{arith}
-use lib.Bits.{xor-shifted}
+use lib.Bits.{xor_shifted}
 use lib.Pow.{split}
-use Rattle·defs.specs.Field.{Width, add, modulus, times2}
-use Rattle·theory.proofs.Field as F
-use Rattle·field·specs.specs.Arithmetic.{Element}
+use Rattle.defs.specs.Field.{Width, add, modulus, times2}
+use Rattle.theory.proofs.Field as F
+use Rattle.field.specs.Arithmetic.{Element}
 
-pub twice-low : (m a : ℕ) → a * 2 < 2 ^ m → Element m (times2 m a) (a * 2)
+pub twice_low : (m a : ℕ) → a * 2 < 2 ^ m → Element m (times2 m a) (a * 2)
 unfolding times2
-twice-low m a h = record {
-  is = sym (simp (div-eq-of-lt h, zero-mul, F.add-0, mod-eq-of-lt h));
+twice_low m a h = record {
+  is = sym (simp (div-eq_of_lt h, zero-mul, F.add_0, mod-eq_of_lt h));
   small = h;
 }
 
@@ -31,10 +31,10 @@ reduced m a w h l =
     (sym (ap (λ (x : ℕ). x % 2 * modulus m) one ∙ one-mul (modulus m)))
   where
     one : a * 2 / 2 ^ m ≡ 1
-    one = div-eq-of-lt-le (2 ^ m) (omega arith) (omega arith)
+    one = div-eq_of_lt-le (2 ^ m) (omega arith) (omega arith)
 
     none : add (a * 2) (modulus m) / 2 ^ m ≡ 0
-    none = F.add-div m (a * 2) (modulus m) ∙ ap₂ add one (top m w) ∙ F.add-self 1
+    none = F.add_div m (a * 2) (modulus m) ∙ ap₂ add one (top m w) ∙ F.add_self 1
 
     low : add (a * 2) (modulus m) ≡ add (a * 2) (modulus m) % 2 ^ m
     low =
@@ -42,28 +42,28 @@ reduced m a w h l =
         ∙ ap (λ (x : ℕ). x * 2 ^ m + add (a * 2) (modulus m) % 2 ^ m) none ∙ omega arith
 
 -- the modulus, its top bit apart
-pub rest-8 : (m : ℕ) → m ≡ 8 → modulus m ≡ add (2 ^ m) 29
+pub rest_8 : (m : ℕ) → m ≡ 8 → modulus m ≡ add (2 ^ m) 29
 unfolding modulus add
-rest-8 m e = rw e
+rest_8 m e = rw e
 
-pub rest-small : (m : ℕ) → Width m → (m ≡ 8 → ⊥) → modulus m ≡ add (2 ^ m) 3
+pub rest_small : (m : ℕ) → Width m → (m ≡ 8 → ⊥) → modulus m ≡ add (2 ^ m) 3
 unfolding modulus add
-rest-small m (inl e) n = rw e
-rest-small m (inr (inl e)) n = rw e
-rest-small m (inr (inr e)) n = absurd (n e)
+rest_small m (inl e) n = rw e
+rest_small m (inr (inl e)) n = rw e
+rest_small m (inr (inr e)) n = absurd (n e)
 
-pub doubled-low : (m x : ℕ) {h : ℕ} → h * 2 ≡ 2 ^ m → x < h → Element m (times2 m x) (x + x)
-doubled-low m x e l =
+pub doubled_low : (m x : ℕ) {h : ℕ} → h * 2 ≡ 2 ^ m → x < h → Element m (times2 m x) (x + x)
+doubled_low m x e l =
     let two : x + x ≡ x * 2 = omega arith in
-    rw two (twice-low m x (omega arith))
+    rw two (twice_low m x (omega arith))
 
-top-bit : (m y : ℕ) → y < 2 ^ m → add (2 ^ m) y ≡ 2 ^ m + y
+top_bit : (m y : ℕ) → y < 2 ^ m → add (2 ^ m) y ≡ 2 ^ m + y
 unfolding add
-top-bit m y h = rw one-mul at (xor-shifted 1 m y h)
+top_bit m y h = rw one-mul at (xor_shifted 1 m y h)
 
-pub doubled-high : (m x r : ℕ) {h : ℕ} → Width m → h * 2 ≡ 2 ^ m → h ≤ x → x < 2 ^ m → modulus m ≡ add (2 ^ m) r
+pub doubled_high : (m x r : ℕ) {h : ℕ} → Width m → h * 2 ≡ 2 ^ m → h ≤ x → x < 2 ^ m → modulus m ≡ add (2 ^ m) r
     → Element m (times2 m x) (add (x - h + (x - h)) r)
-doubled-high m x r {h} W e l s q = record { is = same ∙ reduced m x W s (omega arith); small = rw (same ∙ reduced m x W s (omega arith)) (F.times2-lt m x) }
+doubled_high m x r {h} W e l s q = record { is = same ∙ reduced m x W s (omega arith); small = rw (same ∙ reduced m x W s (omega arith)) (F.times2_lt m x) }
   where
     y : ℕ
     y = x - h + (x - h)
@@ -72,7 +72,7 @@ doubled-high m x r {h} W e l s q = record { is = same ∙ reduced m x W s (omega
     cancels a b c = simp F.sums
 
     shifted : add (2 ^ m) y ≡ x * 2
-    shifted = top-bit m y (omega arith) ∙ omega arith
+    shifted = top_bit m y (omega arith) ∙ omega arith
 
     same : add y r ≡ add (x * 2) (modulus m)
     same = sym (ap₂ add (sym shifted) q ∙ cancels (2 ^ m) y r)

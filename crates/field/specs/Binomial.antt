@@ -1,7 +1,6 @@
 -- Odd binomials over one lower number.
-use Prim.Native.Nat.{ℕ, _%_, _<_}
-use mathlib.Core.Path.{_≡_}
-use Rattle·defs.specs.Field.{binom}
+use Rattle.std.specs.Prelude.{ℕ, ◌%◌, ◌<◌, ◌≡◌}
+use Rattle.defs.specs.Field.{binom}
 
 -- n is the next number after i whose binomial over j is odd
 pub record NextOdd (i j n : ℕ) : Type 0 where

@@ -1,69 +1,62 @@
 // Arithmetic of the fields with 4, 16 and 256 elements.
+#![tactic(auto)]
+
 mod binomial;
 mod tables;
 
+ghost use Rattle.std.specs.Prelude.{◌≡◌, ◌+◌, ◌*◌, ◌-◌, ◌^◌, ◌<◌, ◌≤◌, length};
+ghost use Rattle.defs.specs.Field.{Width, times2, mul, pow};
+ghost use Rattle.field.specs.Arithmetic.{Element, Inverse, Logarithm, Powers, Logarithms};
+ghost use Rattle.field.specs.Arithmetic.{Products, Doubled};
+
 pub use binomial::next_odd;
-use tables::ELEMENTS;
-use tables::ELEMENTS4;
-use tables::ELEMENTS16;
-use tables::EXP;
-use tables::EXP4;
-use tables::EXP16;
-use tables::LOG;
-use tables::LOG4;
-use tables::LOG16;
 pub use tables::POWERS;
-use tables::POWERS4;
-use tables::POWERS16;
-ghost use mathlib.Core.Path.{_≡_};
-ghost use Prim.Native.Nat.{_+_, _*_, _-_, _^_, _<_, _≤_};
-ghost use Rattle·defs.specs.Field.{Width, times2, mul, pow};
-ghost use Rattle·field·specs.specs.Arithmetic.{Element, Inverse, Logarithm, Powers, Logarithms};
-ghost use Rattle·field·specs.specs.Arithmetic.{Products, Doubled};
-ghost use lib.ListN.{length};
+use tables::{
+    ELEMENTS, ELEMENTS4, ELEMENTS16, EXP, EXP4, EXP16, LOG, LOG4, LOG16, POWERS4, POWERS16,
+};
 
 // The tables, each with its rule, so that whoever looks one up cites the rule.
 fn powers4() -> [u8; POWERS4]
-    ensures { λ r. ⌜ Powers 2 r ⌝ }
+    ensures { Powers 2 result }
 {
     EXP4
 }
 
 fn powers16() -> [u8; POWERS16]
-    ensures { λ r. ⌜ Powers 4 r ⌝ }
+    ensures { Powers 4 result }
 {
     EXP16
 }
 
 fn powers256() -> [u8; POWERS]
-    ensures { λ r. ⌜ Powers 8 r ⌝ }
+    ensures { Powers 8 result }
 {
     EXP
 }
 
 fn logarithms4() -> [u8; ELEMENTS4]
-    ensures { λ r. ⌜ Logarithms 2 r ⌝ }
+    ensures { Logarithms 2 result }
 {
     LOG4
 }
 
 fn logarithms16() -> [u8; ELEMENTS16]
-    ensures { λ r. ⌜ Logarithms 4 r ⌝ }
+    ensures { Logarithms 4 result }
 {
     LOG16
 }
 
 fn logarithms256() -> [u8; ELEMENTS]
-    ensures { λ r. ⌜ Logarithms 8 r ⌝ }
+    ensures { Logarithms 8 result }
 {
     LOG
 }
 
 // The power i of 2.
 fn exp(m: usize, i: usize) -> u8
-    requires { ⌜ Width m ⌝ }
-    requires { ⌜ i < 2 * (2 ^ m - 1) ⌝ }
-    ensures { λ r. ⌜ Element m (pow m 2 i) r ⌝ }
+    requires width { Width m }
+    requires i_bound { i < 2 * (2 ^ m - 1) }
+    ensures { Element m (pow m 2 i) result }
 {
     if m == 2 {
         let table = powers4();
@@ -79,9 +72,9 @@ fn exp(m: usize, i: usize) -> u8
 
 // The power of 2 that a is; 0 is none.
 fn log(m: usize, a: u8) -> u8
-    requires { ⌜ Width m ⌝ }
-    requires { ⌜ (a < 2 ^ m) × (a ≡ 0 → ⊥) ⌝ }
-    ensures { λ r. ⌜ Logarithm m a r ⌝ }
+    requires width { Width m }
+    requires a_bound { (a < 2 ^ m) × (a ≡ 0 → ⊥) }
+    ensures { Logarithm m a result }
 {
     if m == 2 {
         let table = logarithms4();
@@ -96,9 +89,9 @@ fn log(m: usize, a: u8) -> u8
 }
 
 pub fn mul(m: usize, a: u8, b: u8) -> u8
-    requires { ⌜ Width m ⌝ }
-    requires { ⌜ (a < 2 ^ m) × (b < 2 ^ m) ⌝ }
-    ensures { λ r. ⌜ Element m (mul m a b) r ⌝ }
+    requires width { Width m }
+    requires a_bound { (a < 2 ^ m) × (b < 2 ^ m) }
+    ensures { Element m (mul m a b) result }
 {
     if a == 0 {
         return 0;
@@ -111,24 +104,24 @@ pub fn mul(m: usize, a: u8, b: u8) -> u8
 
 // The number of elements.
 pub fn field_size(m: usize) -> usize
-    requires { ⌜ Width m ⌝ }
-    ensures { λ r. ⌜ r ≡ 2 ^ m ⌝ }
+    requires { Width m }
+    ensures { result ≡ 2 ^ m }
 {
     1 << m
 }
 
 pub fn inverse(m: usize, a: u8) -> u8
-    requires { ⌜ Width m ⌝ }
-    requires { ⌜ (a < 2 ^ m) × (a ≡ 0 → ⊥) ⌝ }
-    ensures { λ r. ⌜ Inverse m a r ⌝ }
+    requires width { Width m }
+    requires a_bound { (a < 2 ^ m) × (a ≡ 0 → ⊥) }
+    ensures { Inverse m a result }
 {
     exp(m, field_size(m) - 1 - log(m, a) as usize)
 }
 
 // The least element whose double is reduced.
 fn half(m: usize) -> u8
-    requires { ⌜ Width m ⌝ }
-    ensures { λ h. ⌜ h * 2 ≡ 2 ^ m ⌝ }
+    requires { Width m }
+    ensures { result * 2 ≡ 2 ^ m }
 {
     if m == 2 {
         return 2;
@@ -141,9 +134,9 @@ fn half(m: usize) -> u8
 
 // 2 a, by operations on bytes alone, so that a loop over a row doubles many entries at a time. 29 and 3 are the moduli without bit m.
 pub fn times2(m: usize, a: u8) -> u8
-    requires { ⌜ Width m ⌝ }
-    requires { ⌜ a < 2 ^ m ⌝ }
-    ensures { λ r. ⌜ Element m (times2 m a) r ⌝ }
+    requires width { Width m }
+    requires a_bound { a < 2 ^ m }
+    ensures { Element m (times2 m a) result }
 {
     let top = half(m);
     if a < top {
@@ -158,8 +151,8 @@ pub fn times2(m: usize, a: u8) -> u8
 
 // The first size entries once more behind them, each with step added.
 fn double(row: &mut [u8; 256], size: usize, step: u8)
-    requires { ⌜ (length (now row) ≡ 256) × (size + size ≤ 256) ⌝ }
-    ensures { λ _. ⌜ Doubled size step size (now (row .entry)) (now (row .exit)) ⌝ }
+    requires { (length row.old ≡ 256) × (size + size ≤ 256) }
+    ensures { Doubled size step size row.old row.new }
 {
     let mut j = 0;
     while j < size {
@@ -170,9 +163,9 @@ fn double(row: &mut [u8; 256], size: usize, step: u8)
 
 // The multiples of c: c x at x, for inner loops that multiply by c again and again.
 pub fn product_row(m: usize, c: u8) -> [u8; 256]
-    requires { ⌜ Width m ⌝ }
-    requires { ⌜ c < 2 ^ m ⌝ }
-    ensures { λ r. ⌜ Products m c r ⌝ }
+    requires width { Width m }
+    requires c_bound { c < 2 ^ m }
+    ensures { Products m c result }
 {
     let mut row = [0u8; 256];
     let mut size = 1;

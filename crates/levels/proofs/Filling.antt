@@ -1,122 +1,122 @@
 -- A row that is filled with the chunks of a text's levels, line after line.
-use Prim.Native.Nat.{ℕ, _+_, _*_, _<_, _≤_}
+use Prim.Native.Nat.{ℕ, ◌+◌, ◌*◌, ◌<◌, ◌≤◌}
 use mathlib.Core.Bool.{true}
-use mathlib.Core.Path.{_≡_, refl, ap, sym, _∙_}
-use mathlib.Core.List.{List, [], _∷_, _++_, map, append-nil, append-assoc}
-use native.Mathlib.Decide.{decLt}
-use native.Mathlib.Nat.{mul-zero, mul-suc, mul-le-mul-right}
+use mathlib.Core.Path.{◌≡◌, refl, ap, sym, ◌∙◌}
+use mathlib.Core.List.{List, [], ◌∷◌, ◌++◌, map, append-nil, append_assoc}
+use native.Mathlib.Decide.{dec_lt}
+use native.Mathlib.Nat.{mul-zero, mul-suc, mul-le-mul_right}
 use native.Mathlib.Omega.{arith}
-use lib.ListN.{length, getD, take, drop, length-append}
-use lib.Seq.{length-take-le, take-all, take-at}
-use Rattle·defs.specs.Place.{tab}
-use Rattle·defs.specs.Levels.{lines, written, valueOf, linesVerdict, levelsRow}
-use Rattle·defs.specs.declared.Verdict.the-variants.{Fine}
-use Rattle·theory.specs.Fill.{filled}
-use Rattle·theory.proofs.Fill.{length-filled}
-use Rattle·theory.proofs.Place.{length-tab, tab-same}
-use Rattle·text.specs.Number.{numberIn}
-use Rattle·text.specs.declared.number.Number.{Number}
-use Rattle·text.proofs.Numbers.{capped-low}
-use Rattle·code.specs.Chunk.{chunkOf}
-use Rattle·code.proofs.Chunks.{chunk-at}
-use Rattle·levels·specs.specs.Lines.{headLine, levelIn, Fillable}
-use Rattle·levels·proofs.proofs.Words.{digitAt}
-use Rattle·levels·proofs.proofs.Checking.{line-known, good-first, good-any, lines-passed, lines-at, lines-end}
-use Rattle·levels·proofs.proofs.Judging.{value-is, end-inside, line-behind}
+use lib.ListN.{length, get_or, take, drop, length-append}
+use lib.Seq.{length-take-le, take_all, take_at}
+use Rattle.defs.specs.Place.{tab}
+use Rattle.defs.specs.Levels.{lines, written, value_of, lines_verdict, levels_row}
+use Rattle.defs.specs.declared.Verdict.TheVariants.{Fine}
+use Rattle.theory.specs.Fill.{filled}
+use Rattle.theory.proofs.Fill.{length_filled}
+use Rattle.theory.proofs.Place.{length_tab, tab_same}
+use Rattle.text.specs.Number.{number_in}
+use Rattle.text.specs.declared.number.Number.{Number}
+use Rattle.text.proofs.Numbers.{capped_low}
+use Rattle.code.specs.Chunk.{chunk_of}
+use Rattle.code.proofs.Chunks.{chunk_at}
+use Rattle.levels.specs.Lines.{head_line, level_in, Fillable}
+use Rattle.levels.proofs.Words.{digit_at}
+use Rattle.levels.proofs.Checking.{line_known, good_first, good_any, lines_passed, lines_at, lines_end}
+use Rattle.levels.proofs.Judging.{value_is, end_inside, line_behind}
 
-no-lines : (rest : List (List ℕ)) → length rest ≡ 0 → rest ≡ []
-no-lines [] e = refl
-no-lines (line ∷ rest) e = absurd (omega arith)
+no_lines : (rest : List (List ℕ)) → length rest ≡ 0 → rest ≡ []
+no_lines [] e = refl
+no_lines (line ∷ rest) e = absurd (omega arith)
 
-row-none : (q r : ℕ) → levelsRow q r [] ≡ []
-unfolding levelsRow
-row-none q r = refl
+row_none : (q r : ℕ) → levels_row q r [] ≡ []
+unfolding levels_row
+row_none q r = refl
 
-row-more : (q r v : ℕ) (s : List ℕ) → levelsRow q r (v ∷ s) ≡ tab (digitAt q r v) r ++ levelsRow q r s
-unfolding levelsRow
-row-more q r v s = refl
+row_more : (q r v : ℕ) (s : List ℕ) → levels_row q r (v ∷ s) ≡ tab (digit_at q r v) r ++ levels_row q r s
+unfolding levels_row
+row_more q r v s = refl
 
 -- what stands before the end of what was filled in
-filled-take : (d : List ℕ) (at : ℕ) (F : ℕ → ℕ) (n : ℕ) → at + n ≤ length d → take (at + n) (filled d at F n) ≡ take at d ++ tab F n
+filled_take : (d : List ℕ) (at : ℕ) (F : ℕ → ℕ) (n : ℕ) → at + n ≤ length d → take (at + n) (filled d at F n) ≡ take at d ++ tab F n
 unfolding filled
-filled-take d at F n h =
-    take-at (take at d ++ tab F n) (drop (at + n) d) (at + n)
-    (length-append (take at d) (tab F n) ∙ omega (arith, length-take-le at d (omega arith), length-tab F n))
+filled_take d at F n h =
+    take_at (take at d ++ tab F n) (drop (at + n) d) (at + n)
+    (length-append (take at d) (tab F n) ∙ omega (arith, length-take-le at d (omega arith), length_tab F n))
 
 -- the chunks of the lines before the place at stand in the row before the other place
 pub record Filling (text : List ℕ) (top q r : ℕ) (old : List ℕ) (at place : ℕ) (row : List ℕ) : Type 0 where
   pub within : at ≤ length text
-  pub good : linesVerdict (top + 1) 0 (lines (drop at text)) ≡ Fine
+  pub good : lines_verdict (top + 1) 0 (lines (drop at text)) ≡ Fine
   pub long : length row ≡ length old
   pub room : place + r * length (lines (drop at text)) ≡ length old
-  pub is : take place row ++ levelsRow q r (map valueOf (lines (drop at text))) ≡ levelsRow q r (map valueOf (lines text))
+  pub is : take place row ++ levels_row q r (map value_of (lines (drop at text))) ≡ levels_row q r (map value_of (lines text))
 
 module _ (text : List ℕ) (top q r : ℕ) (old : List ℕ) where
-  pub filling-first : Fillable text top q r old → Filling text top q r old 0 0 old
-  filling-first f = record { within = omega arith; good = f .good; long = refl; room = omega (arith, f .count); is = refl }
+  pub filling_first : Fillable text top q r old → Filling text top q r old 0 0 old
+  filling_first f = record { within = omega arith; good = f.good; long = refl; room = omega (arith, f.count); is = refl }
 
   module _ (some : 0 < r) (at place : ℕ) (row : List ℕ) (h : Filling text top q r old at place row) where
     module _ (l : place < length row) where
       -- a line begins there
-      pub line-there : at < length text
-      line-there = go (decLt at (length text))
+      pub line_there : at < length text
+      line_there = go (dec_lt at (length text))
         where
           go : Dec (at < length text) → at < length text
           go (yes k) = k
           go (no k) =
-              let none : r * length (lines (drop at text)) ≡ 0 = ap (λ (x : List (List ℕ)). r * length x) (lines-end text at (omega arith)) ∙ mul-zero r in
-              absurd (omega (arith, h .room, h .long))
+              let none : r * length (lines (drop at text)) ≡ 0 = ap (λ (x : List (List ℕ)). r * length x) (lines_end text at (omega arith)) ∙ mul-zero r in
+              absurd (omega (arith, h.room, h.long))
 
-      module _ (n : Number) (read : n ≡ numberIn top at (drop at text)) where
+      module _ (n : Number) (read : n ≡ number_in top at (drop at text)) where
         abbrev line : List ℕ
-        line = headLine (drop at text)
+        line = head_line (drop at text)
 
-        known : (written line ≡ true) × (valueOf line < top + 1)
-        known = line-known (top + 1) 0 line (good-first (top + 1) 0 line _ (ap (linesVerdict (top + 1) 0) (sym (lines-at text at line-there)) ∙ h .good))
+        known : (written line ≡ true) × (value_of line < top + 1)
+        known = line_known (top + 1) 0 line (good_first (top + 1) 0 line _ (ap (lines_verdict (top + 1) 0) (sym (lines_at text at line_there)) ∙ h.good))
 
-        split : lines (drop at text) ≡ line ∷ lines (drop (n .end + 1) text)
-        split = lines-at text at line-there ∙ rw (line-behind top 0 text at line-there n read true (sym (known .0)) refl)
+        split : lines (drop at text) ≡ line ∷ lines (drop (n.end + 1) text)
+        split = lines_at text at line_there ∙ rw (line_behind top 0 text at line_there n read true (sym known.0) refl)
 
-        pub end-low : n .end < length text
-        end-low = end-inside top 0 text at line-there n read true (sym (known .0)) refl
+        pub end_low : n.end < length text
+        end_low = end_inside top 0 text at line_there n read true (sym known.0) refl
 
-        level-is : levelIn (n .value) ≡ valueOf line
-        level-is = ap levelIn (value-is top 0 text at line-there n read ∙ sym (capped-low top (valueOf line) (omega (arith, known))))
+        level_is : level_in n.value ≡ value_of line
+        level_is = ap level_in (value_is top 0 text at line_there n read ∙ sym (capped_low top (value_of line) (omega (arith, known))))
 
-        pub chunk-room : place + r ≤ length row
-        chunk-room = omega (arith, h .room, h .long, ap (λ (x : List (List ℕ)). r * length x) split, mul-suc r (length (lines (drop (n .end + 1) text))))
+        pub chunk_room : place + r ≤ length row
+        chunk_room = omega (arith, h.room, h.long, ap (λ (x : List (List ℕ)). r * length x) split, mul-suc r (length (lines (drop (n.end + 1) text))))
 
-        pub filling-more : (v : ℕ) (chunk row′ : List ℕ) → v ≡ levelIn (n .value) → chunk ≡ chunkOf r (digitAt q r v)
-            → row′ ≡ filled row place (λ j. getD chunk j 0) r → Filling text top q r old (n .end + 1) (place + r) row′
-        filling-more v chunk row′ f e w = record {
-          within = omega (arith, end-low);
+        pub filling_more : (v : ℕ) (chunk row' : List ℕ) → v ≡ level_in n.value → chunk ≡ chunk_of r (digit_at q r v)
+            → row' ≡ filled row place (λ j. get_or chunk j 0) r → Filling text top q r old (n.end + 1) (place + r) row'
+        filling_more v chunk row' f e w = record {
+          within = omega (arith, end_low);
           good =
-              good-any (top + 1) 1 0 _
-              (sym (lines-passed (top + 1) 0 line _ (good-first (top + 1) 0 line _ now-good)) ∙ now-good);
-          long = ap length w ∙ length-filled row place _ r chunk-room ∙ h .long;
-          room = omega (arith, h .room, ap (λ (x : List (List ℕ)). r * length x) split, mul-suc r (length (lines (drop (n .end + 1) text))));
+              good_any (top + 1) 1 0 _
+              (sym (lines_passed (top + 1) 0 line _ (good_first (top + 1) 0 line _ now_good)) ∙ now_good);
+          long = ap length w ∙ length_filled row place _ r chunk_room ∙ h.long;
+          room = omega (arith, h.room, ap (λ (x : List (List ℕ)). r * length x) split, mul-suc r (length (lines (drop (n.end + 1) text))));
           is =
-              ap (λ (x : List ℕ). x ++ levelsRow q r (map valueOf (lines (drop (n .end + 1) text)))) front
-              ∙ append-assoc (take place row) (tab (digitAt q r (valueOf line)) r) _
+              ap (λ (x : List ℕ). x ++ levels_row q r (map value_of (lines (drop (n.end + 1) text)))) front
+              ∙ append_assoc (take place row) (tab (digit_at q r (value_of line)) r) _
               ∙ ap (λ (x : List ℕ). take place row ++ x) (sym whole)
-              ∙ h .is;
+              ∙ h.is;
         }
           where
-            now-good : linesVerdict (top + 1) 0 (line ∷ lines (drop (n .end + 1) text)) ≡ Fine
-            now-good = ap (linesVerdict (top + 1) 0) (sym split) ∙ h .good
+            now_good : lines_verdict (top + 1) 0 (line ∷ lines (drop (n.end + 1) text)) ≡ Fine
+            now_good = ap (lines_verdict (top + 1) 0) (sym split) ∙ h.good
 
-            symbols : tab (λ j. getD chunk j 0) r ≡ tab (digitAt q r (valueOf line)) r
+            symbols : tab (λ j. get_or chunk j 0) r ≡ tab (digit_at q r (value_of line)) r
             symbols =
-                tab-same _ _ r
-                (λ j k. ap (λ (x : List ℕ). getD x j 0) e ∙ chunk-at r (digitAt q r v) j k ∙ ap (λ (x : ℕ). digitAt q r x j) (f ∙ level-is))
+                tab_same _ _ r
+                (λ j k. ap (λ (x : List ℕ). get_or x j 0) e ∙ chunk_at r (digit_at q r v) j k ∙ ap (λ (x : ℕ). digit_at q r x j) (f ∙ level_is))
 
-            front : take (place + r) row′ ≡ take place row ++ tab (digitAt q r (valueOf line)) r
-            front = ap (take (place + r)) w ∙ filled-take row place (λ j. getD chunk j 0) r chunk-room ∙ ap (λ (x : List ℕ). take place row ++ x) symbols
+            front : take (place + r) row' ≡ take place row ++ tab (digit_at q r (value_of line)) r
+            front = ap (take (place + r)) w ∙ filled_take row place (λ j. get_or chunk j 0) r chunk_room ∙ ap (λ (x : List ℕ). take place row ++ x) symbols
 
-            whole : levelsRow q r (map valueOf (lines (drop at text))) ≡ tab (digitAt q r (valueOf line)) r ++ levelsRow q r (map valueOf (lines (drop (n .end + 1) text)))
-            whole = ap (λ (x : List (List ℕ)). levelsRow q r (map valueOf x)) split ∙ row-more q r (valueOf line) (map valueOf (lines (drop (n .end + 1) text)))
+            whole : levels_row q r (map value_of (lines (drop at text))) ≡ tab (digit_at q r (value_of line)) r ++ levels_row q r (map value_of (lines (drop (n.end + 1) text)))
+            whole = ap (λ (x : List (List ℕ)). levels_row q r (map value_of x)) split ∙ row_more q r (value_of line) (map value_of (lines (drop (n.end + 1) text)))
 
-    pub filling-last : length row ≤ place → row ≡ levelsRow q r (map valueOf (lines text))
-    filling-last l =
-        let none = no-lines (lines (drop at text)) (omega (arith, h .room, h .long, mul-le-mul-right (length (lines (drop at text))) some)) in
-        sym (ap (λ (x : List (List ℕ)). take place row ++ levelsRow q r (map valueOf x)) none ∙ rw (row-none q r, append-nil (take place row)) (take-all place row l)) ∙ h .is
+    pub filling_last : length row ≤ place → row ≡ levels_row q r (map value_of (lines text))
+    filling_last l =
+        let none = no_lines (lines (drop at text)) (omega (arith, h.room, h.long, mul-le-mul_right (length (lines (drop at text))) some)) in
+        sym (ap (λ (x : List (List ℕ)). take place row ++ levels_row q r (map value_of x)) none ∙ rw (row_none q r, append-nil (take place row)) (take_all place row l)) ∙ h.is

@@ -1,16 +1,15 @@
 // The level of a chunk, and the chunk of a level.
-ghost use mathlib.Core.Path.{_≡_};
-ghost use Prim.Native.Nat.{_+_, _-_, _/_, _%_, _^_};
-ghost use lib.ListN.{getD};
-ghost use Rattle·defs.specs.Levels.{level};
-ghost use Rattle·code.specs.Chunk.{chunkOf};
-ghost use Rattle·levels·specs.specs.Base.{Base, Low};
+ghost use Rattle.std.specs.Prelude.{◌≡◌, ◌+◌, ◌-◌, ◌/◌, ◌%◌, ◌^◌, get_or};
+ghost use Rattle.defs.specs.Levels.{level};
+ghost use Rattle.code.specs.Chunk.{chunk_of};
+ghost use Rattle.levels.specs.Base.{Base, Low};
+
 use defs::DEEPEST;
 
 // The highest level, one below q ^ r, which may be 2 ^ 64.
 pub fn highest(q: usize, r: usize) -> usize
-    requires { ⌜ Base q r ⌝ }
-    ensures { λ top. ⌜ top + 1 ≡ q ^ r ⌝ }
+    requires { Base q r }
+    ensures { result + 1 ≡ q ^ r }
 {
     let mut top = 0;
     let mut j = 0;
@@ -23,9 +22,9 @@ pub fn highest(q: usize, r: usize) -> usize
 
 // The level of a chunk: symbol after symbol, the last one with the weight 1.
 pub fn level_of(chunk: [u8; DEEPEST], q: usize, r: usize) -> usize
-    requires { ⌜ Base q r ⌝ }
-    requires { ⌜ Low q r chunk ⌝ }
-    ensures { λ v. ⌜ v ≡ level q r (λ j. getD chunk j 0) ⌝ }
+    requires base { Base q r }
+    requires low { Low q r chunk }
+    ensures { result ≡ level q r (λ j. get_or chunk j 0) }
 {
     let mut v = 0;
     let mut j = 0;
@@ -38,8 +37,8 @@ pub fn level_of(chunk: [u8; DEEPEST], q: usize, r: usize) -> usize
 
 // The chunk of a level: its digits to the base q, the last one first.
 pub fn chunk_at(v: usize, q: usize, r: usize) -> [u8; DEEPEST]
-    requires { ⌜ Base q r ⌝ }
-    ensures { λ a. ⌜ a ≡ chunkOf r (λ j. v / q ^ (r - 1 - j) % q) ⌝ }
+    requires { Base q r }
+    ensures { result ≡ chunk_of r (λ j. v / q ^ (r - 1 - j) % q) }
 {
     let mut chunk = [0u8; DEEPEST];
     let mut rest = v;

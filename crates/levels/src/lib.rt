@@ -1,29 +1,24 @@
 // Levels from the bench: a text with one whole number to a line, read into a row and written from one.
+#![tactic(auto)]
+
 mod level;
 mod lines;
 
-ghost use mathlib.Core.Path.{_≡_};
-ghost use mathlib.Core.List.{[], _∷_, _++_};
-ghost use Prim.Native.Nat.{_+_, _≤_};
-ghost use lib.ListN.{length};
-ghost use Rattle·defs.specs.Text.{decimal};
-ghost use Rattle·defs.specs.Levels.{levelsOf, levelsText, shapeVerdict, LevelsRead, LevelsWritten};
-ghost use Rattle·text.specs.Piece.{Wrote};
-ghost use Rattle·levels·specs.specs.Base.{Leveled};
-use defs::Answer;
-use defs::LONGEST;
-use defs::Refusal;
-use defs::Verdict;
-use text::hand_out;
-use text::put;
-use text::put_number;
+ghost use Rattle.std.specs.Prelude.{◌≡◌, [], ◌∷◌, ◌++◌, ◌+◌, ◌≤◌, length};
+ghost use Rattle.defs.specs.Text.{decimal};
+ghost use Rattle.defs.specs.Levels.{levels_of, levels_text, shape_verdict, LevelsRead, LevelsWritten};
+ghost use Rattle.text.specs.Piece.{Wrote};
+ghost use Rattle.levels.specs.Base.{Leveled};
+
+use defs::{Answer, LONGEST, Refusal, Verdict};
+use text::{hand_out, put, put_number};
 
 // No text of a row has more bytes than this: at most three digits for each symbol, and a newline.
 pub const ROOM: usize = 4 * LONGEST;
 
 // 1, 2 and 7, on the length of a row.
 fn check_shape(m: usize, r: usize, n: usize) -> Verdict
-    ensures { λ v. ⌜ v ≡ shapeVerdict m r n ⌝ }
+    ensures { result ≡ shape_verdict m r n }
 {
     if !code::is_width(m) {
         return Verdict::Refused(Refusal::Field);
@@ -33,7 +28,7 @@ fn check_shape(m: usize, r: usize, n: usize) -> Verdict
 
 // Reads the levels of a text into a row, or refuses and leaves the buffer as it was.
 pub fn levels_read(m: usize, r: usize, text: &[u8], row: &mut [u8]) -> Answer
-    ensures { λ a. ⌜ LevelsRead m r (now (text .entry)) (now (row .entry)) a (now (row .exit)) ⌝ }
+    ensures { LevelsRead m r text.now row.old result row.new }
 {
     let shape = check_shape(m, r, row.len());
     if let Verdict::Refused(x) = shape {
@@ -51,8 +46,8 @@ pub fn levels_read(m: usize, r: usize, text: &[u8], row: &mut [u8]) -> Answer
 
 // A level and a newline.
 fn put_level(text: &mut [u8], at: usize, v: usize) -> usize
-    requires { ⌜ at + length (decimal v ++ (10 ∷ [])) ≤ length (now text) ⌝ }
-    ensures { λ end. ⌜ Wrote (now (text .entry)) at (decimal v ++ (10 ∷ [])) (now (text .exit)) end ⌝ }
+    requires { at + length (decimal v ++ (10 ∷ [])) ≤ length text.old }
+    ensures { Wrote text.old at (decimal v ++ (10 ∷ [])) text.new result }
 {
     let next = put_number(text, at, v);
     put(text, next, b'\n')
@@ -60,8 +55,8 @@ fn put_level(text: &mut [u8], at: usize, v: usize) -> usize
 
 // The levels of a row's chunks, one to a line, at the front.
 fn put_levels(text: &mut [u8], q: usize, r: usize, row: &[u8]) -> usize
-    requires { ⌜ Leveled q r (now row) (length (now text)) ⌝ }
-    ensures { λ end. ⌜ Wrote (now (text .entry)) 0 (levelsText (levelsOf q r (now (row .entry)))) (now (text .exit)) end ⌝ }
+    requires { Leveled q r row.now (length text.old) }
+    ensures { Wrote text.old 0 (levels_text (levels_of q r row.now)) text.new result }
 {
     let count = row.len() / r;
     let mut end = 0;
@@ -76,7 +71,7 @@ fn put_levels(text: &mut [u8], q: usize, r: usize, row: &[u8]) -> usize
 
 // Writes the levels of a row as a text, or refuses and leaves the buffer as it was.
 pub fn levels_write(m: usize, r: usize, row: &[u8], text: &mut [u8]) -> Answer
-    ensures { λ a. ⌜ LevelsWritten m r (now (row .entry)) (now (text .entry)) a (now (text .exit)) ⌝ }
+    ensures { LevelsWritten m r row.now text.old result text.new }
 {
     let shape = check_shape(m, r, row.len());
     if let Verdict::Refused(x) = shape {

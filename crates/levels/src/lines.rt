@@ -1,16 +1,14 @@
 // The lines of a text: their checks in order, and the row of their levels.
-ghost use mathlib.Core.Path.{_≡_};
-ghost use mathlib.Core.List.{map};
-ghost use Prim.Native.Nat.{_+_, _<_};
-ghost use lib.ListN.{length, drop};
-ghost use Rattle·defs.specs.Levels.{lines, written, valueOf, levelsRow};
-ghost use Rattle·levels·specs.specs.Lines.{headLine, Digits, Judges, textChecks, levelIn, Fillable};
+ghost use Rattle.std.specs.Prelude.{◌≡◌, map, ◌+◌, ◌<◌, length, drop};
+ghost use Rattle.defs.specs.Levels.{lines, written, value_of, levels_row};
+ghost use Rattle.levels.specs.Lines.{head_line, Digits, Judges, text_checks, level_in, Fillable};
+
 use crate::level;
-use defs::Refusal;
-use defs::Verdict;
+use defs::{Refusal, Verdict};
 use text::Value;
 
 // What is wrong with a line, if anything, and where the next one begins.
+#[derive(Drop)]
 struct Judged {
     verdict: Verdict,
     next: usize,
@@ -18,8 +16,8 @@ struct Judged {
 
 // Whether a line is written as it must be. It begins at the place at, and its digits end before end.
 fn is_written(text: &[u8], at: usize, end: usize) -> bool
-    requires { ⌜ Digits (now text) at end ⌝ }
-    ensures { λ t. ⌜ t ≡ written (headLine (drop at (now (text .entry)))) ⌝ }
+    requires { Digits text.now at end }
+    ensures { result ≡ written (head_line (drop at text.now)) }
 {
     if end == at {
         return false;
@@ -38,8 +36,8 @@ fn is_written(text: &[u8], at: usize, end: usize) -> bool
 
 // 17 and 18, on the line that begins at the place at. line is its number.
 fn check_line(text: &[u8], at: usize, line: usize, top: usize) -> Judged
-    requires { ⌜ at < length (now text) ⌝ }
-    ensures { λ j. ⌜ Judges (top + 1) line (now (text .entry)) at j ⌝ }
+    requires { at < length text.now }
+    ensures { Judges (top + 1) line text.now at result }
 {
     let n = text::read_number(text, at, top);
     let end = n.end;
@@ -64,7 +62,7 @@ fn check_line(text: &[u8], at: usize, line: usize, top: usize) -> Judged
 
 // 17 and 18 on the lines in order, then 7 for their number.
 pub fn check_lines(text: &[u8], top: usize, count: usize) -> Verdict
-    ensures { λ v. ⌜ v ≡ textChecks (top + 1) (now (text .entry)) count ⌝ }
+    ensures { result ≡ text_checks (top + 1) text.now count }
 {
     let mut at = 0;
     let mut line = 0;
@@ -85,7 +83,7 @@ pub fn check_lines(text: &[u8], top: usize, count: usize) -> Verdict
 
 // A number that was read; one above the highest is none of a checked text.
 fn level_in(value: Value) -> usize
-    ensures { λ v. ⌜ v ≡ levelIn value ⌝ }
+    ensures { result ≡ level_in value }
 {
     match value {
         Value::Is(v) => v,
@@ -95,8 +93,8 @@ fn level_in(value: Value) -> usize
 
 // Writes the row of a text whose lines have passed the checks, chunk after chunk.
 pub fn fill_row(text: &[u8], top: usize, q: usize, r: usize, row: &mut [u8])
-    requires { ⌜ Fillable (now text) top q r (now row) ⌝ }
-    ensures { λ _. ⌜ now (row .exit) ≡ levelsRow q r (map valueOf (lines (now (text .entry)))) ⌝ }
+    requires { Fillable text.now top q r row.old }
+    ensures { row.new ≡ levels_row q r (map value_of (lines text.now)) }
 {
     let mut at = 0;
     let mut place = 0;

@@ -1,38 +1,38 @@
 -- What a slip may be refused by.
-use Prim.Native.Nat.{ℕ, _<_}
-use mathlib.Core.Bool.{Bool, true, _||_, not}
-use mathlib.Core.Path.{_≡_, refl}
+use Prim.Native.Nat.{ℕ, ◌<◌}
+use mathlib.Core.Bool.{Bool, true, ◌||◌, not}
+use mathlib.Core.Path.{◌≡◌, refl}
 use mathlib.Core.List.{List}
 use native.Mathlib.Omega.{arith}
 use lib.Dec.{eqb, lit<}
-use Rattle·defs.specs.Refusal.{numberOf, placeOf}
-use Rattle·defs.specs.Limits.{longest, firstTwice}
-use Rattle·defs.specs.Slip.{isEdition, countIn, pointsIn}
-use Rattle·defs.specs.Read.{firstVerdict, headVerdict, readVerdict}
-use Rattle·defs.specs.declared.Refusal.{Refusal}
-use Rattle·defs.specs.declared.Refusal.the-variants.{Field, Points, Dimension, PointTwice, Length, SlipShort, Edition, SlipLong, SlipBits}
-use Rattle·theory.proofs.Verdict.{Every, every-fine, every-plain, every-place, every-then}
-use Rattle·slip.proofs.Reader.{sound, points-few}
-use Rattle·slip.proofs.Refusals.{first-every}
+use Rattle.defs.specs.Refusal.{number_of, place_of}
+use Rattle.defs.specs.Limits.{longest, first_twice}
+use Rattle.defs.specs.Slip.{is_edition, count_in, points_in}
+use Rattle.defs.specs.Read.{first_verdict, head_verdict, read_verdict}
+use Rattle.defs.specs.declared.Refusal.{Refusal}
+use Rattle.defs.specs.declared.Refusal.TheVariants.{Field, Points, Dimension, PointTwice, Length, SlipShort, Edition, SlipLong, SlipBits}
+use Rattle.theory.proofs.Verdict.{Every, every_fine, every_plain, every_place, every_then}
+use Rattle.slip.proofs.Reader.{sound, points_few}
+use Rattle.slip.proofs.Refusals.{first_every}
 
 -- neither 2, 5 nor 8
 abbrev pub readers : ℕ → Bool
 readers n = not (eqb n 2 || (eqb n 5 || eqb n 8))
 
 -- a property that each refusal has whose number is the reader's and whose place, if any, is below the longest row's length
-module _ {P : Refusal → Type 0} (told : (x : Refusal) → readers (numberOf x) ≡ true → placeOf x < longest → P x) (bytes : List ℕ) where
-  head-every : Every P (headVerdict bytes)
-  unfolding headVerdict
-  head-every =
-      every-then (firstVerdict bytes) _
-      (first-every isEdition bytes (told SlipShort refl (lit< tt)) (told Edition refl (lit< tt)) (told Field refl (lit< tt)) (told Points refl (lit< tt)) (told Dimension refl (lit< tt)))
-      (λ fine. every-plain _ _ _ (told SlipLong refl (lit< tt)) every-fine)
+module _ {P : Refusal → Type 0} (told : (x : Refusal) → readers (number_of x) ≡ true → place_of x < longest → P x) (bytes : List ℕ) where
+  head_every : Every P (head_verdict bytes)
+  unfolding head_verdict
+  head_every =
+      every_then (first_verdict bytes) _
+      (first_every is_edition bytes (told SlipShort refl (lit< tt)) (told Edition refl (lit< tt)) (told Field refl (lit< tt)) (told Points refl (lit< tt)) (told Dimension refl (lit< tt)))
+      (λ fine. every_plain _ _ _ (told SlipLong refl (lit< tt)) every_fine)
 
-  pub read-every : (count n : ℕ) → Every P (readVerdict bytes count n)
-  unfolding readVerdict
-  read-every count n =
-      every-then (headVerdict bytes) _ head-every
-      (λ fine. every-plain _ _ _ (told SlipBits refl (lit< tt))
-      (every-place (firstTwice (pointsIn bytes)) (countIn bytes) _ _
-      (λ l. told (PointTwice _) refl (omega (arith, points-few bytes (sound bytes fine))))
-      (every-plain _ _ _ (told Length refl (lit< tt)) every-fine)))
+  pub read_every : (count n : ℕ) → Every P (read_verdict bytes count n)
+  unfolding read_verdict
+  read_every count n =
+      every_then (head_verdict bytes) _ head_every
+      (λ fine. every_plain _ _ _ (told SlipBits refl (lit< tt))
+      (every_place (first_twice (points_in bytes)) (count_in bytes) _ _
+      (λ l. told (PointTwice _) refl (omega (arith, points_few bytes (sound bytes fine))))
+      (every_plain _ _ _ (told Length refl (lit< tt)) every_fine)))

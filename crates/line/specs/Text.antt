@@ -1,11 +1,8 @@
 -- The line of a slip, in front of a buffer.
-use Prim.Native.Nat.{ℕ, _+_, _*_, _≤_}
-use mathlib.Core.Path.{_≡_}
-use mathlib.Core.List.{List}
-use lib.ListN.{length, take}
-use Rattle·defs.specs.Limits.{longest}
-use Rattle·defs.specs.Line.{RowLine, Line}
-use Rattle·defs.specs.declared.SlipRead.{SlipRead}
+use Rattle.std.specs.Prelude.{ℕ, ◌+◌, ◌*◌, ◌≤◌, ◌≡◌, List, length, take}
+use Rattle.defs.specs.Limits.{longest}
+use Rattle.defs.specs.Line.{RowLine, Line}
+use Rattle.defs.specs.declared.SlipRead.{SlipRead}
 
 -- no line has more bytes
 abbrev pub room : ℕ
@@ -20,20 +17,20 @@ pub record Roomy (k count size depths n : ℕ) : Type 0 where
 -- the first bytes of the buffer are the line of a row
 pub record RowText (m r k : ℕ) (points w buffer : List ℕ) (end : ℕ) : Type 0 where
   pub within : end ≤ length buffer
-  pub is-line : RowLine m r k points w (take end buffer)
+  pub is_line : RowLine m r k points w (take end buffer)
 
 -- the code and the row that s tells of, the points and the row being in front of two buffers
 pub record Taken (s : SlipRead) (points row : List ℕ) (n : ℕ) : Type 0 where
-  pub points-in : s .count ≤ length points
-  pub row-in : s .r * s .count ≤ length row
-  pub k-top : s .k ≤ longest
-  pub count-top : s .count ≤ longest
+  pub points_inside : s.count ≤ length points
+  pub row_inside : s.r * s.count ≤ length row
+  pub k_top : s.k ≤ longest
+  pub count_top : s.count ≤ longest
   pub text : n ≡ room
 
 abbrev pub SlipText : SlipRead → List ℕ → List ℕ → List ℕ → ℕ → Type 0
-SlipText s points row buffer end = RowText (s .m) (s .r) (s .k) (take (s .count) points) (take (s .r * s .count) row) buffer end
+SlipText s points row buffer end = RowText s.m s.r s.k (take s.count points) (take (s.r * s.count) row) buffer end
 
 -- the first bytes of the buffer are the line of some bytes
 pub record Text (bytes buffer : List ℕ) (end : ℕ) : Type 0 where
   pub within : end ≤ length buffer
-  pub is-line : Line bytes (take end buffer)
+  pub is_line : Line bytes (take end buffer)

@@ -1,29 +1,23 @@
 // The line that slipread prints, from the bytes of a slip.
-ghost use mathlib.Core.Path.{_≡_};
-ghost use mathlib.Core.List.{[]};
-ghost use Prim.Native.Nat.{_+_, _≤_};
-ghost use lib.ListN.{length};
-ghost use Rattle·defs.specs.Limits.{longest};
-ghost use Rattle·defs.specs.Line.{spaced, listed, heading, lineOf, Lined};
-ghost use Rattle·defs.specs.declared.Answer.the-variants.{Done, Refused as No};
-ghost use Rattle·text.specs.Piece.{Wrote};
-ghost use Rattle·line·specs.specs.Text.{room, Roomy, RowText, Taken, SlipText, Text};
-use defs::Answer;
-use defs::LONGEST;
-use defs::Refusal;
-use defs::SlipRead;
-use text::hand_out;
-use text::put;
-use text::put_number;
-use text::put_spaced;
+#![tactic(auto)]
+
+ghost use Rattle.std.specs.Prelude.{◌≡◌, [], ◌+◌, ◌≤◌, length};
+ghost use Rattle.defs.specs.Limits.{longest};
+ghost use Rattle.defs.specs.Line.{spaced, listed, heading, line_of, Lined};
+ghost use Rattle.defs.specs.declared.Answer.TheVariants.{Done, Refused as No};
+ghost use Rattle.text.specs.Piece.{Wrote};
+ghost use Rattle.line.specs.Text.{room, Roomy, RowText, Taken, SlipText, Text};
+
+use defs::{Answer, LONGEST, Refusal, SlipRead};
+use text::{hand_out, put, put_number, put_spaced};
 
 // No line has more bytes than this: a message and depths of the longest row, and what stands around them.
 pub const ROOM: usize = 6 * LONGEST + 8;
 
 // Each number behind a space.
 fn put_all(text: &mut [u8], at: usize, s: &[u8]) -> usize
-    requires { ⌜ at + length (spaced (now s)) ≤ length (now text) ⌝ }
-    ensures { λ end. ⌜ Wrote (now (text .entry)) at (spaced (now (s .entry))) (now (text .exit)) end ⌝ }
+    requires { at + length (spaced s.now) ≤ length text.old }
+    ensures { Wrote text.old at (spaced s.now) text.new result }
 {
     let mut end = at;
     let mut i = 0;
@@ -36,8 +30,8 @@ fn put_all(text: &mut [u8], at: usize, s: &[u8]) -> usize
 
 // A bar and each number, all behind a space.
 fn put_list(text: &mut [u8], at: usize, s: &[u8]) -> usize
-    requires { ⌜ at + length (listed (now s)) ≤ length (now text) ⌝ }
-    ensures { λ end. ⌜ Wrote (now (text .entry)) at (listed (now (s .entry))) (now (text .exit)) end ⌝ }
+    requires { at + length (listed s.now) ≤ length text.old }
+    ensures { Wrote text.old at (listed s.now) text.new result }
 {
     let behind = put(text, at, b' ');
     let next = put(text, behind, b'|');
@@ -46,8 +40,8 @@ fn put_list(text: &mut [u8], at: usize, s: &[u8]) -> usize
 
 // Number and detail, at the front.
 fn put_heading(text: &mut [u8], a: Answer) -> usize
-    requires { ⌜ length (heading a) ≤ length (now text) ⌝ }
-    ensures { λ end. ⌜ Wrote (now (text .entry)) 0 (heading a) (now (text .exit)) end ⌝ }
+    requires { length (heading a) ≤ length text.old }
+    ensures { Wrote text.old 0 (heading a) text.new result }
 {
     let number = answers::number_in(a);
     let detail = answers::detail_in(a);
@@ -56,16 +50,16 @@ fn put_heading(text: &mut [u8], a: Answer) -> usize
 }
 
 fn put_refused(text: &mut [u8], x: Refusal) -> usize
-    requires { ⌜ length (lineOf (No x) [] []) ≤ length (now text) ⌝ }
-    ensures { λ end. ⌜ Wrote (now (text .entry)) 0 (lineOf (No x) [] []) (now (text .exit)) end ⌝ }
+    requires { length (line_of (No x) [] []) ≤ length text.old }
+    ensures { Wrote text.old 0 (line_of (No x) [] []) text.new result }
 {
     let next = put_heading(text, Answer::Refused(x));
     put(text, next, b'\n')
 }
 
 fn put_done(text: &mut [u8], total: usize, message: &[u8], depths: &[u8]) -> usize
-    requires { ⌜ length (lineOf (Done total) (now message) (now depths)) ≤ length (now text) ⌝ }
-    ensures { λ end. ⌜ Wrote (now (text .entry)) 0 (lineOf (Done total) (now (message .entry)) (now (depths .entry))) (now (text .exit)) end ⌝ }
+    requires { length (line_of (Done total) message.now depths.now) ≤ length text.old }
+    ensures { Wrote text.old 0 (line_of (Done total) message.now depths.now) text.new result }
 {
     let first = put_heading(text, Answer::Done(total));
     let second = put_list(text, first, message);
@@ -84,8 +78,8 @@ fn put_row(
     message: &mut [u8],
     depths: &mut [u8],
 ) -> usize
-    requires { ⌜ Roomy k (length (now points)) (length (now message)) (length (now depths)) (length (now text)) ⌝ }
-    ensures { λ end. ⌜ RowText m r k (now (points .entry)) (now (row .entry)) (now (text .exit)) end ⌝ }
+    requires { Roomy k (length points.now) (length message.old) (length depths.old) (length text.old) }
+    ensures { RowText m r k points.now row.now text.new result }
 {
     let a = decode::decode(m, r, k, points, row, message, depths);
     match a {
@@ -95,15 +89,15 @@ fn put_row(
 }
 
 fn zeros() -> [u8; LONGEST]
-    ensures { λ a. ⌜ length a ≡ longest ⌝ }
+    ensures { length result ≡ longest }
 {
     [0u8; LONGEST]
 }
 
 // The line of a slip that was read: its points and its row stand in front of two buffers.
 fn put_slip(text: &mut [u8], s: SlipRead, points: &[u8], row: &[u8]) -> usize
-    requires { ⌜ Taken s (now points) (now row) (length (now text)) ⌝ }
-    ensures { λ end. ⌜ SlipText s (now (points .entry)) (now (row .entry)) (now (text .exit)) end ⌝ }
+    requires { Taken s points.now row.now (length text.old) }
+    ensures { SlipText s points.now row.now text.new result }
 {
     let m = s.m;
     let r = s.r;
@@ -126,8 +120,8 @@ fn put_slip(text: &mut [u8], s: SlipRead, points: &[u8], row: &[u8]) -> usize
 
 // Reads and decodes a slip and writes its line.
 fn put_line(bytes: &[u8], text: &mut [u8]) -> usize
-    requires { ⌜ length (now text) ≡ room ⌝ }
-    ensures { λ end. ⌜ Text (now (bytes .entry)) (now (text .exit)) end ⌝ }
+    requires { length text.old ≡ room }
+    ensures { Text bytes.now text.new result }
 {
     let mut points = zeros();
     let mut row = zeros();
@@ -141,7 +135,7 @@ fn put_line(bytes: &[u8], text: &mut [u8]) -> usize
 
 // The line of the bytes, in front of a buffer: read as a slip and decoded.
 pub fn line(bytes: &[u8], text: &mut [u8]) -> Answer
-    ensures { λ a. ⌜ Lined (now (bytes .entry)) (now (text .entry)) a (now (text .exit)) ⌝ }
+    ensures { Lined bytes.now text.old result text.new }
 {
     let mut words = [0u8; ROOM];
     let size = put_line(bytes, &mut words);

@@ -1,8 +1,7 @@
 -- The equations of formula (9), an unknown to a column: the coefficients of Q₀, then those of Q₁.
-use Prim.Native.Nat.{ℕ, zero, suc, _+_, _-_, _<_, min}
-use mathlib.Core.Path.{_≡_}
-use Rattle·defs.specs.Field.{add, mul}
-use Rattle·defs.specs.Row.{sum}
+use Rattle.std.specs.Prelude.{ℕ, zero, suc, ◌+◌, ◌-◌, ◌<◌, min, ◌≡◌}
+use Rattle.defs.specs.Field.{add, mul}
+use Rattle.defs.specs.Row.{sum}
 
 -- the coefficients at one depth of 1, x, x ^ 2, .. from those at the depth above; f multiplies by the point
 unfoldable pub deeper : (ℕ → ℕ) → (ℕ → ℕ) → ℕ → ℕ
@@ -10,16 +9,16 @@ deeper f above zero = 0
 deeper f above (suc a) = add (above a) (f (deeper f above a))
 
 -- the coefficient j of x ^ a at a point P, by x = P + (x - P)
-unfoldable pub powerAt : (ℕ → ℕ) → ℕ → ℕ → ℕ
-powerAt f zero zero = 1
-powerAt f zero (suc a) = f (powerAt f zero a)
-powerAt f (suc j) a = deeper f (powerAt f j) a
+unfoldable pub power_at : (ℕ → ℕ) → ℕ → ℕ → ℕ
+power_at f zero zero = 1
+power_at f zero (suc a) = f (power_at f zero a)
+power_at f (suc j) a = deeper f (power_at f j) a
 
 -- the coefficient j of w · x ^ a at P, where w is a chunk as a polynomial in x - P and only its symbols before b count
-unfoldable pub mixedAt : ℕ → ℕ → (ℕ → ℕ) → ℕ → ℕ → ℕ → ℕ
-mixedAt m P w b j a = sum (min b (suc j)) (λ c. mul m (w c) (powerAt (mul m P) (j - c) a))
+unfoldable pub mixed_at : ℕ → ℕ → (ℕ → ℕ) → ℕ → ℕ → ℕ → ℕ
+mixed_at m P w b j a = sum (min b (suc j)) (λ c. mul m (w c) (power_at (mul m P) (j - c) a))
 
 -- a row of the table has the equation of depth j at P, in which only the symbols before b of the chunk w count
 pub record Equation (m s₀ s₁ P : ℕ) (w : ℕ → ℕ) (b j : ℕ) (row : ℕ → ℕ) : Type 0 where
-  pub first : (a : ℕ) → a < s₀ → row a ≡ powerAt (mul m P) j a
-  pub second : (a : ℕ) → a < s₁ → row (s₀ + a) ≡ mixedAt m P w b j a
+  pub first : (a : ℕ) → a < s₀ → row a ≡ power_at (mul m P) j a
+  pub second : (a : ℕ) → a < s₁ → row (s₀ + a) ≡ mixed_at m P w b j a

@@ -1,20 +1,17 @@
 -- What finding a pair asks and answers. It says nothing of how a pair is found.
-use Prim.Native.Nat.{ℕ, suc, _+_, _*_, _/_}
-use mathlib.Core.Path.{_≡_}
-use mathlib.Core.List.{List}
-use lib.ListN.{length, take}
-use Rattle·defs.specs.Place.{Symbols}
-use Rattle·defs.specs.Distance.{reach}
-use Rattle·defs.specs.Pair.{IsPair}
-use Rattle·defs.specs.declared.Refusal.the-variants.{TooFar}
-use Rattle·defs.specs.declared.Verdict.the-variants.{Fine, Refused}
-use Rattle·defs.specs.declared.Code.{Code}
-use Rattle·pair·specs.specs.declared.Paired.{Paired}
+use Rattle.std.specs.Prelude.{ℕ, suc, ◌+◌, ◌*◌, ◌/◌, ◌≡◌, List, length, take}
+use Rattle.defs.specs.Place.{Symbols}
+use Rattle.defs.specs.Distance.{reach}
+use Rattle.defs.specs.Pair.{IsPair}
+use Rattle.defs.specs.declared.Refusal.TheVariants.{TooFar}
+use Rattle.defs.specs.declared.Verdict.TheVariants.{Fine, Refused}
+use Rattle.defs.specs.declared.Code.{Code}
+use Rattle.pair.specs.declared.Paired.{Paired}
 
 -- w is as long as the rows of the code c, and of symbols of its field
 pub record IsRow (c : Code) (w : List ℕ) : Type 0 where
-  pub size : length w ≡ c .r * c .count
-  pub symbols : Symbols (c .m) w
+  pub size : length w ≡ c.r * c.count
+  pub symbols : Symbols c.m w
 
 -- the front of q that is Q₀, and that which is Q₁
 abbrev pub front₀ : ℕ → ℕ → List ℕ → List ℕ → List ℕ
@@ -25,5 +22,5 @@ front₁ r k points q = take (suc (reach r k points)) q
 
 -- a pair that meets the equations, or there is none
 pub data Found (m r k : ℕ) (points w : List ℕ) (a : Paired) : Type 0 where
-  found : a .verdict ≡ Fine → IsPair m r k points w (front₀ r k points (a .q0)) (front₁ r k points (a .q1)) → Found m r k points w a
-  none : a .verdict ≡ Refused TooFar → ((Q₀ Q₁ : List ℕ) → IsPair m r k points w Q₀ Q₁ → ⊥) → Found m r k points w a
+  found : a.verdict ≡ Fine → IsPair m r k points w (front₀ r k points a.q0) (front₁ r k points a.q1) → Found m r k points w a
+  none : a.verdict ≡ Refused TooFar → ((Q₀ Q₁ : List ℕ) → IsPair m r k points w Q₀ Q₁ → ⊥) → Found m r k points w a

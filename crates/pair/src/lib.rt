@@ -1,28 +1,24 @@
 // The pair of polynomials that meets the equations of a row (formula 9 of the paper), or the proof that there is none.
 // The equations stand in a working table, an unknown to a column: the coefficients of Q0, then those of Q1. Row i * r + j has depth j of chunk i.
-use defs::Code;
-use defs::DEEPEST;
-use defs::LONGEST;
-use defs::Refusal;
-use defs::Verdict;
-use solve::STRIDE;
-use solve::Solved;
-use solve::TABLE;
-ghost use mathlib.Core.Path.{_≡_};
-ghost use Prim.Native.Nat.{ℕ, _+_, _*_, _^_, _<_, _≤_};
-ghost use lib.ListN.{length, getD, take};
-ghost use Rattle·defs.specs.Field.{add};
-ghost use Rattle·defs.specs.Place.{tab, Symbols};
-ghost use Rattle·defs.specs.Distance.{radius as radiusOf};
-ghost use Rattle·defs.specs.Limits.{deepest, longest};
-ghost use Rattle·code.specs.Checked.{pointsOf, IsCode};
-ghost use Rattle·solve.specs.Table.{stride, tableSize, at, Shape};
-ghost use Rattle·solve.specs.System.{free};
-ghost use Rattle·pair·specs.specs.Equation.{deeper, powerAt};
-ghost use Rattle·pair·specs.specs.Fill.{look, Bytes, Span, Powers, Added, Chunk, System};
-ghost use Rattle·pair·specs.specs.Found.{IsRow, Found};
+#![tactic(auto)]
+
+ghost use Rattle.std.specs.Prelude.{◌≡◌, ℕ, ◌+◌, ◌*◌, ◌^◌, ◌<◌, ◌≤◌, length, get_or, take};
+ghost use Rattle.defs.specs.Field.{add};
+ghost use Rattle.defs.specs.Place.{tab, Symbols};
+ghost use Rattle.defs.specs.Distance.{radius as radiusOf};
+ghost use Rattle.defs.specs.Limits.{deepest, longest};
+ghost use Rattle.code.specs.Checked.{points_of, IsCode};
+ghost use Rattle.solve.specs.Table.{stride, table_size, at, Shape};
+ghost use Rattle.solve.specs.System.{free};
+ghost use Rattle.pair.specs.Equation.{deeper, power_at};
+ghost use Rattle.pair.specs.Fill.{look, Bytes, Span, Powers, Added, Chunk, System};
+ghost use Rattle.pair.specs.Found.{IsRow, Found};
+
+use defs::{Code, DEEPEST, LONGEST, Refusal, Verdict};
+use solve::{STRIDE, Solved, TABLE};
 
 // A pair, where the verdict is fine: the first entries of q0 and q1 are its coefficients, as many as formula 9 allows.
+#[derive(Drop)]
 pub struct Paired {
     pub verdict: Verdict,
     pub q0: [u8; LONGEST],
@@ -31,9 +27,9 @@ pub struct Paired {
 
 // Writes 1 and the powers of a point, whose multiples are given: what depth 0 asks of n unknowns.
 fn write_powers(t: &mut [u8; TABLE], products: &[u8; 256], to: usize, n: usize)
-    requires { ⌜ Bytes (now t) (now products) ⌝ }
-    requires { ⌜ to + n ≤ tableSize ⌝ }
-    ensures { λ _. ⌜ Span (now (t .entry)) to n (powerAt (look (now (products .entry))) 0) (now (t .exit)) ⌝ }
+    requires bytes { Bytes t.old products.now }
+    requires n_bound { to + n ≤ table_size }
+    ensures { Span t.old to n (power_at (look products.now) 0) t.new }
 {
     let mut x: u8 = 1;
     let mut a = 0;
@@ -46,9 +42,9 @@ fn write_powers(t: &mut [u8; TABLE], products: &[u8; 256], to: usize, n: usize)
 
 // Writes what a depth asks of n unknowns, by what the depth above it asks.
 fn write_deeper(t: &mut [u8; TABLE], products: &[u8; 256], to: usize, from: usize, n: usize)
-    requires { ⌜ Bytes (now t) (now products) ⌝ }
-    requires { ⌜ (from + n ≤ to) × (to + n ≤ tableSize) ⌝ }
-    ensures { λ _. ⌜ Span (now (t .entry)) to n (deeper (look (now (products .entry))) (λ a. getD (now (t .entry)) (from + a) 0)) (now (t .exit)) ⌝ }
+    requires bytes { Bytes t.old products.now }
+    requires n_bound { (from + n ≤ to) × (to + n ≤ table_size) }
+    ensures { Span t.old to n (deeper (look products.now) (λ a. get_or t.old (from + a) 0)) t.new }
 {
     let mut x: u8 = 0;
     let mut a = 0;
@@ -62,9 +58,9 @@ fn write_deeper(t: &mut [u8; TABLE], products: &[u8; 256], to: usize, from: usiz
 
 // Writes what the first r depths at a point ask of n unknowns, a row for each.
 fn write_depths(t: &mut [u8; TABLE], m: usize, point: u8, to: usize, r: usize, n: usize)
-    requires { ⌜ Shape m (now t) ⌝ }
-    requires { ⌜ (point < 2 ^ m) × (0 < r) × (to + r * stride ≤ tableSize) × (n ≤ stride) ⌝ }
-    ensures { λ _. ⌜ Powers m point to r n (now (t .entry)) (now (t .exit)) ⌝ }
+    requires shape { Shape m t.old }
+    requires point_bound { (point < 2 ^ m) × (0 < r) × (to + r * stride ≤ table_size) × (n ≤ stride) }
+    ensures { Powers m point to r n t.old t.new }
 {
     let products = field::product_row(m, point);
     write_powers(t, &products, to, n);
@@ -78,9 +74,9 @@ fn write_depths(t: &mut [u8; TABLE], m: usize, point: u8, to: usize, r: usize, n
 
 // Adds the multiples of n entries to n entries after them.
 fn add_products(t: &mut [u8; TABLE], products: &[u8; 256], to: usize, from: usize, n: usize)
-    requires { ⌜ Bytes (now t) (now products) ⌝ }
-    requires { ⌜ (from + n ≤ to) × (to + n ≤ tableSize) ⌝ }
-    ensures { λ _. ⌜ Span (now (t .entry)) to n (λ a. add (getD (now (t .entry)) (to + a) 0) (look (now (products .entry)) (getD (now (t .entry)) (from + a) 0))) (now (t .exit)) ⌝ }
+    requires bytes { Bytes t.old products.now }
+    requires n_bound { (from + n ≤ to) × (to + n ≤ table_size) }
+    ensures { Span t.old to n (λ a. add (get_or t.old (to + a) 0) (look products.now (get_or t.old (from + a) 0))) t.new }
 {
     let mut a = 0;
     while a < n {
@@ -93,10 +89,10 @@ fn add_products(t: &mut [u8; TABLE], products: &[u8; 256], to: usize, from: usiz
 
 // Adds x times n entries in each of d rows to n entries after them in each of d rows.
 fn add_multiple(t: &mut [u8; TABLE], m: usize, x: u8, to: usize, from: usize, d: usize, n: usize)
-    requires { ⌜ Shape m (now t) ⌝ }
-    requires { ⌜ (x < 2 ^ m) × (n ≤ stride) × (from + n ≤ to) × (to + d * stride + n ≤ tableSize + stride) ⌝ }
-    requires { ⌜ ((j i a b : ℕ) → a < n → b < n → from + j * stride + a ≡ to + i * stride + b → ⊥) ⌝ }
-    ensures { λ _. ⌜ Added m x to from d n (now (t .entry)) (now (t .exit)) ⌝ }
+    requires shape { Shape m t.old }
+    requires x_bound { (x < 2 ^ m) × (n ≤ stride) × (from + n ≤ to) × (to + d * stride + n ≤ table_size + stride) }
+    requires fact { (j i a b : ℕ) → a < n → b < n → from + j * stride + a ≡ to + i * stride + b → ⊥ }
+    ensures { Added m x to from d n t.old t.new }
 {
     let products = field::product_row(m, x);
     let mut j = 0;
@@ -118,11 +114,11 @@ fn write_chunk(
     s0: usize,
     s1: usize,
 )
-    requires { ⌜ Shape m (now t) ⌝ }
-    requires { ⌜ Symbols m chunk ⌝ }
-    requires { ⌜ (point < 2 ^ m) × (0 < r) × (r ≤ deepest) × (p + r ≤ longest) × (s1 ≤ s0) × (s0 + s1 ≤ stride) ⌝ }
-    requires { ⌜ ((k : ℕ) → p * stride ≤ k → getD (now t) k 0 ≡ 0) ⌝ }
-    ensures { λ _. ⌜ Chunk m r s0 s1 point (look chunk) p r (now (t .entry)) (now (t .exit)) ⌝ }
+    requires shape { Shape m t.old }
+    requires symbols { Symbols m chunk }
+    requires point_bound { (point < 2 ^ m) × (0 < r) × (r ≤ deepest) × (p + r ≤ longest) × (s1 ≤ s0) × (s0 + s1 ≤ stride) }
+    requires by_index { (k : ℕ) → p * stride ≤ k → get_or t.old k 0 ≡ 0 }
+    ensures { Chunk m r s0 s1 point (look chunk) p r t.old t.new }
 {
     let from = p * STRIDE;
     write_depths(t, m, point, from, r, s0);
@@ -135,11 +131,11 @@ fn write_chunk(
 
 // Writes the equations of a row into a table of zeros.
 fn write_system(t: &mut [u8; TABLE], code: Code, row: &[u8], s0: usize, s1: usize)
-    requires { ⌜ IsCode code ⌝ }
-    requires { ⌜ IsRow code (now row) ⌝ }
-    requires { ⌜ (length (now t) ≡ tableSize) × (s1 ≤ s0) × (s0 + s1 ≤ stride) ⌝ }
-    requires { ⌜ ((k : ℕ) → getD (now t) k 0 ≡ 0) ⌝ }
-    ensures { λ _. ⌜ System (code .m) (code .r) s0 s1 (code .count) (pointsOf code) (now (row .entry)) (now (t .exit)) ⌝ }
+    requires code { IsCode code }
+    requires row { IsRow code row.now }
+    requires t_len { (length t.old ≡ table_size) × (s1 ≤ s0) × (s0 + s1 ≤ stride) }
+    requires by_index { (k : ℕ) → get_or t.old k 0 ≡ 0 }
+    ensures { System code.m code.r s0 s1 code.count (points_of code) row.now t.new }
 {
     let m = code.m;
     let r = code.r;
@@ -156,8 +152,8 @@ fn write_system(t: &mut [u8; TABLE], code: Code, row: &[u8], s0: usize, s1: usiz
 
 // The n unknowns from the first on, in the solution that an elimination with the free unknown c leaves.
 fn unknowns(t: &[u8; TABLE], c: usize, first: usize, n: usize) -> [u8; LONGEST]
-    requires { ⌜ (length (now t) ≡ tableSize) × (c < stride) × (first + n ≤ stride) × (n ≤ longest) ⌝ }
-    ensures { λ q. ⌜ take n q ≡ tab (λ a. free (at (now (t .entry))) c (first + a)) n ⌝ }
+    requires { (length t.now ≡ table_size) × (c < stride) × (first + n ≤ stride) × (n ≤ longest) }
+    ensures { take n result ≡ tab (λ a. free (at t.now) c (first + a)) n }
 {
     let mut q = [0u8; LONGEST];
     let mut a = 0;
@@ -170,17 +166,17 @@ fn unknowns(t: &[u8; TABLE], c: usize, first: usize, n: usize) -> [u8; LONGEST]
 
 // How far a row of n symbols may be from that of a message of k.
 pub fn radius(n: usize, k: usize) -> usize
-    requires { ⌜ k ≤ n ⌝ }
-    ensures { λ t. ⌜ t ≡ radiusOf n k ⌝ }
+    requires { k ≤ n }
+    ensures { result ≡ radiusOf n k }
 {
     (n - k) / 2
 }
 
 // Q0 and Q1, not both zero, with as many coefficients as formula 9 allows, such that at every point the first r coefficients of Q0 + w_i Q1 vanish.
 pub fn find_pair(code: Code, row: &[u8]) -> Paired
-    requires { ⌜ IsCode code ⌝ }
-    requires { ⌜ IsRow code (now row) ⌝ }
-    ensures { λ a. ⌜ Found (code .m) (code .r) (code .k) (pointsOf code) (now (row .entry)) a ⌝ }
+    requires code { IsCode code }
+    requires row { IsRow code row.now }
+    ensures { Found code.m code.r code.k (points_of code) row.now result }
 {
     let m = code.m;
     let k = code.k;

@@ -1,16 +1,17 @@
 // The calls once more as functions for C: a slice is a pointer and a length, an answer one number.
-ghost use mathlib.Core.Path.{_≡_};
-ghost use Prim.Native.Nat.{_^_, _<_};
-ghost use Rattle·defs.specs.Refusal.{detail};
-ghost use Rattle·defs.specs.Encode.{distanceAnswer};
-ghost use Rattle·plq·specs.specs.Packed.{packed, packedRead, packedRoll, packedLine, PackedEncoded, PackedDecoded, PackedWritten, PackedRead, PackedLined, PackedTurned, PackedLevelsRead, PackedLevelsWritten, Narrow};
-use defs::Answer;
-use defs::SlipRead;
+#![tactic(auto)]
+
+ghost use Rattle.std.specs.Prelude.{◌≡◌, ◌^◌, ◌<◌};
+ghost use Rattle.defs.specs.Refusal.{detail};
+ghost use Rattle.defs.specs.Encode.{distance_answer};
+ghost use Rattle.plq.specs.Packed.{packed, packed_read, packed_roll, packed_line, PackedEncoded, PackedDecoded, PackedWritten, PackedRead, PackedLined, PackedTurned, PackedLevelsRead, PackedLevelsWritten, Narrow};
+
+use defs::{Answer, SlipRead};
 
 // An answer as one number.
 fn pack(a: Answer) -> u64
-    requires { ⌜ detail a < 2 ^ 16 ⌝ }
-    ensures { λ p. ⌜ p ≡ packed a ⌝ }
+    requires { detail a < 2 ^ 16 }
+    ensures { result ≡ packed a }
 {
     let number = answers::number_in(a) as u64;
     let detail = answers::detail_in(a) as u64;
@@ -19,8 +20,8 @@ fn pack(a: Answer) -> u64
 
 // What the slip reader answers as one number.
 fn pack_read(s: SlipRead) -> u64
-    requires { ⌜ Narrow s ⌝ }
-    ensures { λ p. ⌜ p ≡ packedRead s ⌝ }
+    requires { Narrow s }
+    ensures { result ≡ packed_read s }
 {
     let a = s.answer;
     let number = answers::number_in(a) as u64;
@@ -41,7 +42,7 @@ fn pack_read(s: SlipRead) -> u64
 
 // An answer with the number of a line, of which 56 bits have room.
 fn pack_line(a: Answer) -> u64
-    ensures { λ p. ⌜ p ≡ packedLine a ⌝ }
+    ensures { result ≡ packed_line a }
 {
     let number = answers::number_in(a) as u64;
     let line = answers::detail_in(a) as u64;
@@ -49,7 +50,7 @@ fn pack_line(a: Answer) -> u64
 }
 
 // Writes the row of a message.
-#[no_mangle]
+#[unsafe(no_mangle)]
 pub extern "C" fn plq_encode(
     m: usize,
     r: usize,
@@ -58,13 +59,13 @@ pub extern "C" fn plq_encode(
     message: &[u8],
     row: &mut [u8],
 ) -> u64
-    ensures { λ p. ⌜ PackedEncoded m r k (now (points .entry)) (now (message .entry)) (now (row .entry)) p (now (row .exit)) ⌝ }
+    ensures { PackedEncoded m r k points.now message.now row.old result row.new }
 {
     pack(rows::encode(m, r, k, points, message, row))
 }
 
 // Finds the message near to a row, and the depth of damage in each chunk.
-#[no_mangle]
+#[unsafe(no_mangle)]
 pub extern "C" fn plq_decode(
     m: usize,
     r: usize,
@@ -74,21 +75,21 @@ pub extern "C" fn plq_decode(
     message: &mut [u8],
     depths: &mut [u8],
 ) -> u64
-    ensures { λ p. ⌜ PackedDecoded m r k (now (points .entry)) (now (row .entry)) (now (message .entry)) (now (depths .entry)) p (now (message .exit)) (now (depths .exit)) ⌝ }
+    ensures { PackedDecoded m r k points.now row.now message.old depths.old result message.new depths.new }
 {
     pack(decode::decode(m, r, k, points, row, message, depths))
 }
 
 // Measures the distance of two rows.
-#[no_mangle]
+#[unsafe(no_mangle)]
 pub extern "C" fn plq_distance(r: usize, a: &[u8], b: &[u8]) -> u64
-    ensures { λ p. ⌜ p ≡ packed (distanceAnswer r (now (a .entry)) (now (b .entry))) ⌝ }
+    ensures { result ≡ packed (distance_answer r a.now b.now) }
 {
     pack(rows::distance(r, a, b))
 }
 
 // Writes a code and a row as a slip of an edition.
-#[no_mangle]
+#[unsafe(no_mangle)]
 pub extern "C" fn plq_slip_write(
     edition: usize,
     m: usize,
@@ -98,31 +99,31 @@ pub extern "C" fn plq_slip_write(
     row: &[u8],
     bytes: &mut [u8],
 ) -> u64
-    ensures { λ p. ⌜ PackedWritten edition m r k (now (points .entry)) (now (row .entry)) (now (bytes .entry)) p (now (bytes .exit)) ⌝ }
+    ensures { PackedWritten edition m r k points.now row.now bytes.old result bytes.new }
 {
     pack(slip::slip_write(edition, m, r, k, points, row, bytes))
 }
 
 // Reads a slip.
-#[no_mangle]
+#[unsafe(no_mangle)]
 pub extern "C" fn plq_slip_read(bytes: &[u8], points: &mut [u8], row: &mut [u8]) -> u64
-    ensures { λ p. ⌜ PackedRead (now (bytes .entry)) (now (points .entry)) (now (row .entry)) p (now (points .exit)) (now (row .exit)) ⌝ }
+    ensures { PackedRead bytes.now points.old row.old result points.new row.new }
 {
     pack_read(slip::slip_read(bytes, points, row))
 }
 
 // Writes the line that slipread prints for a slip.
-#[no_mangle]
+#[unsafe(no_mangle)]
 pub extern "C" fn plq_line(bytes: &[u8], text: &mut [u8]) -> u64
-    ensures { λ p. ⌜ PackedLined (now (bytes .entry)) (now (text .entry)) p (now (text .exit)) ⌝ }
+    ensures { PackedLined bytes.now text.old result text.new }
 {
     pack(line::line(bytes, text))
 }
 
 // Finds the first slip of a roll.
-#[no_mangle]
+#[unsafe(no_mangle)]
 pub extern "C" fn plq_roll_first(roll: &[u8]) -> u64
-    ensures { λ p. ⌜ p ≡ packedRoll (now (roll .entry)) ⌝ }
+    ensures { result ≡ packed_roll roll.now }
 {
     let number = answers::number_in(roll::roll_answer(roll)) as u64;
     let size = roll::first_size(roll) as u64;
@@ -130,33 +131,33 @@ pub extern "C" fn plq_roll_first(roll: &[u8]) -> u64
 }
 
 // Turns a slip of edition 1 into one of edition 2.
-#[no_mangle]
+#[unsafe(no_mangle)]
 pub extern "C" fn plq_to_new(slip: &[u8], bytes: &mut [u8]) -> u64
-    ensures { λ p. ⌜ PackedTurned 1 2 (now (slip .entry)) (now (bytes .entry)) p (now (bytes .exit)) ⌝ }
+    ensures { PackedTurned 1 2 slip.now bytes.old result bytes.new }
 {
     pack(turn::to_new(slip, bytes))
 }
 
 // And back.
-#[no_mangle]
+#[unsafe(no_mangle)]
 pub extern "C" fn plq_to_old(slip: &[u8], bytes: &mut [u8]) -> u64
-    ensures { λ p. ⌜ PackedTurned 2 1 (now (slip .entry)) (now (bytes .entry)) p (now (bytes .exit)) ⌝ }
+    ensures { PackedTurned 2 1 slip.now bytes.old result bytes.new }
 {
     pack(turn::to_old(slip, bytes))
 }
 
 // Reads a text of levels into a row.
-#[no_mangle]
+#[unsafe(no_mangle)]
 pub extern "C" fn plq_levels_read(m: usize, r: usize, text: &[u8], row: &mut [u8]) -> u64
-    ensures { λ p. ⌜ PackedLevelsRead m r (now (text .entry)) (now (row .entry)) p (now (row .exit)) ⌝ }
+    ensures { PackedLevelsRead m r text.now row.old result row.new }
 {
     pack_line(levels::levels_read(m, r, text, row))
 }
 
 // Writes the levels of a row as a text.
-#[no_mangle]
+#[unsafe(no_mangle)]
 pub extern "C" fn plq_levels_write(m: usize, r: usize, row: &[u8], text: &mut [u8]) -> u64
-    ensures { λ p. ⌜ PackedLevelsWritten m r (now (row .entry)) (now (text .entry)) p (now (text .exit)) ⌝ }
+    ensures { PackedLevelsWritten m r row.now text.old result text.new }
 {
     pack(levels::levels_write(m, r, row, text))
 }

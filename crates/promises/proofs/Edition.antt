@@ -1,46 +1,46 @@
 -- What the edition decides: 11 where it is neither 1 nor 2, 10 where a header of edition 2 is cut, and what the reader says of it.
-use Prim.Native.Nat.{ℕ, _<_, _≤_}
-use mathlib.Core.Bool.{Bool, true, false, _||_}
-use mathlib.Core.Logic.{_⊎_, inl, inr}
-use mathlib.Core.Path.{_≡_, refl, sym, _∙_}
+use Prim.Native.Nat.{ℕ, ◌<◌, ◌≤◌}
+use mathlib.Core.Bool.{Bool, true, false, ◌||◌}
+use mathlib.Core.Logic.{◌⊎◌, inl, inr}
+use mathlib.Core.Path.{◌≡◌, refl, sym, ◌∙◌}
 use mathlib.Core.List.{List}
-use native.Mathlib.Decide.{decLt}
+use native.Mathlib.Decide.{dec_lt}
 use native.Mathlib.Omega.{arith}
 use lib.Dec.{eqb}
 use lib.ListN.{length}
-use borrow.Author.Tests.{lt-ltb, le-ltb, ltb-false, ne-eqb, eqb-true, eqb-false, not-true}
-use Rattle·defs.specs.Refusal.{numberOf, refuse, answer}
-use Rattle·defs.specs.Limits.{codeVerdict, numbersVerdict}
-use Rattle·defs.specs.Encode.{symbolsVerdict}
-use Rattle·defs.specs.Slip.{isEdition, layoutOf, headBits, editionIn, layoutIn}
-use Rattle·defs.specs.Write.{writeVerdict, Written}
-use Rattle·defs.specs.Read.{firstVerdictOf, firstVerdict, headVerdict, readVerdict, reading, Read}
-use Rattle·defs.specs.Roll.{rollVerdict}
-use Rattle·defs.specs.declared.Refusal.{Refusal}
-use Rattle·defs.specs.declared.Refusal.the-variants.{Edition, SlipShort}
-use Rattle·defs.specs.declared.Verdict.the-variants.{Refused}
-use Rattle·defs.specs.declared.Answer.{Answer}
-use Rattle·defs.specs.declared.Answer.the-variants.{Done, Refused as No}
-use Rattle·defs.specs.declared.SlipRead.{SlipRead}
-use Rattle·theory.proofs.Verdict.{or-false, answer-refused, Every, every-fine, every-refuse, every-plain, every-then}
-use Rattle·theory.proofs.Refusals.{numbers-every}
-use Rattle·slip.proofs.Reader.{head-first, read-head}
-use Rattle·slip.proofs.Answered.{answered, read-fine, read-numbers}
-use Rattle·slip.proofs.Taken.{read-sound}
-use Rattle·roll.proofs.Parts.{others-first}
+use borrow.Author.Tests.{lt-ltb, le-ltb, ltb-false, ne_eqb, eqb-true, eqb-false, not-true}
+use Rattle.defs.specs.Refusal.{number_of, refuse, answer}
+use Rattle.defs.specs.Limits.{code_verdict, numbers_verdict}
+use Rattle.defs.specs.Encode.{symbols_verdict}
+use Rattle.defs.specs.Slip.{is_edition, layout_of, head_bits, edition_in, layout_in}
+use Rattle.defs.specs.Write.{write_verdict, Written}
+use Rattle.defs.specs.Read.{first_verdict_of, first_verdict, head_verdict, read_verdict, reading, Read}
+use Rattle.defs.specs.Roll.{roll_verdict}
+use Rattle.defs.specs.declared.Refusal.{Refusal}
+use Rattle.defs.specs.declared.Refusal.TheVariants.{Edition, SlipShort}
+use Rattle.defs.specs.declared.Verdict.TheVariants.{Refused}
+use Rattle.defs.specs.declared.Answer.{Answer}
+use Rattle.defs.specs.declared.Answer.TheVariants.{Done, Refused as No}
+use Rattle.defs.specs.declared.SlipRead.{SlipRead}
+use Rattle.theory.proofs.Verdict.{or_false, answer_refused, Every, every_fine, every_refuse, every_plain, every_then}
+use Rattle.theory.proofs.Refusals.{numbers_every}
+use Rattle.slip.proofs.Reader.{head_first, read_head}
+use Rattle.slip.proofs.Answered.{answered, read_fine, read_numbers}
+use Rattle.slip.proofs.Taken.{read_sound}
+use Rattle.roll.proofs.Parts.{others_first}
 
 abbrev pub Neither : ℕ → Type 0
 Neither edition = (edition ≡ 1 → ⊥) × (edition ≡ 2 → ⊥)
 
-unknown : (edition : ℕ) → Neither edition → isEdition edition ≡ false
-unknown edition n = rw (ne-eqb edition 1 (n .0), ne-eqb edition 2 (n .1))
+unknown : (edition : ℕ) → Neither edition → is_edition edition ≡ false
+unknown edition n = rw (ne_eqb edition 1 n.0, ne_eqb edition 2 n.1)
 
-neither : (edition : ℕ) → isEdition edition ≡ false → Neither edition
+neither : (edition : ℕ) → is_edition edition ≡ false → Neither edition
 neither edition e =
-    let o = or-false (eqb edition 1) (eqb edition 2) e in
-    (eqb-false edition 1 (o .0), eqb-false edition 2 (o .1))
+    let o = or_false (eqb edition 1) (eqb edition 2) e in
+    (eqb-false edition 1 o.0, eqb-false edition 2 o.1)
 
-either : (edition : ℕ) → isEdition edition ≡ true → (edition ≡ 1) ⊎ (edition ≡ 2)
+either : (edition : ℕ) → is_edition edition ≡ true → (edition ≡ 1) ⊎ (edition ≡ 2)
 either edition e = go (eqb edition 1) refl e
   where
     go : (b : Bool) → eqb edition 1 ≡ b → b || eqb edition 2 ≡ true → (edition ≡ 1) ⊎ (edition ≡ 2)
@@ -49,92 +49,92 @@ either edition e = go (eqb edition 1) refl e
 
 -- what is shown of every refusal of a chain of checks: where it is 11, P holds
 abbrev Where11 : Type 0 → Refusal → Type 0
-Where11 P x = numberOf x ≡ 11 → P
+Where11 P x = number_of x ≡ 11 → P
 
 -- ---- the writer
 
-module _ (edition m r k : ℕ) (points w bytes : List ℕ) (a : Answer) (bytes′ : List ℕ) (x : Written edition m r k points w bytes a bytes′) where
+module _ (edition m r k : ℕ) (points w bytes : List ℕ) (a : Answer) (bytes' : List ℕ) (x : Written edition m r k points w bytes a bytes') where
   -- 11 IS TRIED FIRST: whatever the code, the row and the bytes are
-  pub write-unknown : Neither edition → a ≡ No Edition
-  unfolding writeVerdict refuse answer
-  write-unknown n = x .answers ∙ rw (unknown edition n)
+  pub write_unknown : Neither edition → a ≡ No Edition
+  unfolding write_verdict refuse answer
+  write_unknown n = x.answers ∙ rw (unknown edition n)
 
-  write-every : Every (Where11 (Neither edition)) (writeVerdict edition m r k points w (length bytes))
-  unfolding writeVerdict codeVerdict symbolsVerdict
-  write-every =
-      every-refuse _ _ _ (λ t q. neither edition (not-true _ t))
-      (λ known. every-then (codeVerdict (layoutOf edition .top) m r k points) _
-      (every-then (numbersVerdict (layoutOf edition .top) m r k (length points)) _
-      (numbers-every _ m r k (length points) (λ q. absurd (omega arith)) (λ t q. absurd (omega arith)) (λ q. absurd (omega arith)) (λ q. absurd (omega arith)))
-      (λ f. every-plain _ _ _ (λ q. absurd (omega arith)) (every-plain _ _ _ (λ q. absurd (omega arith)) every-fine)))
-      (λ f. every-plain _ _ _ (λ q. absurd (omega arith)) (every-plain _ _ _ (λ q. absurd (omega arith)) (every-plain _ _ _ (λ q. absurd (omega arith)) every-fine))))
+  write_every : Every (Where11 (Neither edition)) (write_verdict edition m r k points w (length bytes))
+  unfolding write_verdict code_verdict symbols_verdict
+  write_every =
+      every_refuse _ _ _ (λ t q. neither edition (not-true _ t))
+      (λ known. every_then (code_verdict (layout_of edition).top m r k points) _
+      (every_then (numbers_verdict (layout_of edition).top m r k (length points)) _
+      (numbers_every _ m r k (length points) (λ q. absurd (omega arith)) (λ t q. absurd (omega arith)) (λ q. absurd (omega arith)) (λ q. absurd (omega arith)))
+      (λ f. every_plain _ _ _ (λ q. absurd (omega arith)) (every_plain _ _ _ (λ q. absurd (omega arith)) every_fine)))
+      (λ f. every_plain _ _ _ (λ q. absurd (omega arith)) (every_plain _ _ _ (λ q. absurd (omega arith)) (every_plain _ _ _ (λ q. absurd (omega arith)) every_fine))))
 
   -- and 11 says nothing else
-  pub unknown-write : a ≡ No Edition → Neither edition
-  unknown-write e = write-every .of Edition (answer-refused _ _ Edition (sym (x .answers) ∙ e)) refl
+  pub unknown_write : a ≡ No Edition → Neither edition
+  unknown_write e = write_every.of Edition (answer_refused _ _ Edition (sym x.answers ∙ e)) refl
 
 -- ---- the reader
 
 -- what the first checks refuse the reader refuses, whatever room it is given
-first-read : (bytes : List ℕ) (x : Refusal) → firstVerdict bytes ≡ Refused x → (count n : ℕ) → readVerdict bytes count n ≡ Refused x
-first-read bytes x e count n = sym (read-head bytes count n x (sym (head-first bytes x e)))
+first_read : (bytes : List ℕ) (x : Refusal) → first_verdict bytes ≡ Refused x → (count n : ℕ) → read_verdict bytes count n ≡ Refused x
+first_read bytes x e count n = sym (read_head bytes count n x (sym (head_first bytes x e)))
 
 module _ (bytes : List ℕ) where
-  pub first-unknown : 3 ≤ length bytes → Neither (editionIn bytes) → firstVerdict bytes ≡ Refused Edition
-  unfolding firstVerdictOf refuse
-  first-unknown long n = rw (le-ltb (length bytes) 3 long, unknown (editionIn bytes) n)
+  pub first_unknown : 3 ≤ length bytes → Neither (edition_in bytes) → first_verdict bytes ≡ Refused Edition
+  unfolding first_verdict_of refuse
+  first_unknown long n = rw (le-ltb (length bytes) 3 long, unknown (edition_in bytes) n)
 
   -- 10 straight after 11: whatever else stands in the bytes
-  pub first-cut : editionIn bytes ≡ 2 → length bytes < 4 → firstVerdict bytes ≡ Refused SlipShort
-  unfolding firstVerdictOf layoutIn layoutOf headBits refuse
-  first-cut e l = go (decLt (length bytes) 3)
+  pub first_cut : edition_in bytes ≡ 2 → length bytes < 4 → first_verdict bytes ≡ Refused SlipShort
+  unfolding first_verdict_of layout_in layout_of head_bits refuse
+  first_cut e l = go (dec_lt (length bytes) 3)
     where
-      go : Dec (length bytes < 3) → firstVerdict bytes ≡ Refused SlipShort
+      go : Dec (length bytes < 3) → first_verdict bytes ≡ Refused SlipShort
       go (yes s) = rw (lt-ltb (length bytes) 3 s)
       go (no s) = rw (le-ltb (length bytes) 3 (omega arith), e, lt-ltb (length bytes) 4 l)
 
   -- and a roll that begins so is refused so
-  pub roll-unknown : 3 ≤ length bytes → Neither (editionIn bytes) → rollVerdict bytes ≡ Refused Edition
-  roll-unknown long n = sym (others-first bytes (λ e. omega arith)) ∙ first-unknown long n
+  pub roll_unknown : 3 ≤ length bytes → Neither (edition_in bytes) → roll_verdict bytes ≡ Refused Edition
+  roll_unknown long n = sym (others_first bytes (λ e. omega arith)) ∙ first_unknown long n
 
-  pub roll-cut : 0 < length bytes → editionIn bytes ≡ 2 → length bytes < 4 → rollVerdict bytes ≡ Refused SlipShort
-  roll-cut some e l = sym (others-first bytes (λ e. omega arith)) ∙ first-cut e l
+  pub roll_cut : 0 < length bytes → edition_in bytes ≡ 2 → length bytes < 4 → roll_verdict bytes ≡ Refused SlipShort
+  roll_cut some e l = sym (others_first bytes (λ e. omega arith)) ∙ first_cut e l
 
   abbrev Unknown : Type 0
-  Unknown = (3 ≤ length bytes) × Neither (editionIn bytes)
+  Unknown = (3 ≤ length bytes) × Neither (edition_in bytes)
 
-  read-every : (count n : ℕ) → Every (Where11 Unknown) (readVerdict bytes count n)
-  unfolding readVerdict headVerdict firstVerdictOf
-  read-every count n =
-      every-then (headVerdict bytes) _
-      (every-then (firstVerdict bytes) _
-      (every-refuse _ _ _ (λ t q. absurd (omega arith))
-      (λ long. every-refuse _ _ _ (λ t q. (ltb-false (length bytes) 3 long, neither (editionIn bytes) (not-true _ t)))
-      (λ known. every-plain _ _ _ (λ q. absurd (omega arith))
-      (every-then _ _
-      (numbers-every _ _ _ _ _ (λ q. absurd (omega arith)) (λ t q. absurd (omega arith)) (λ q. absurd (omega arith)) (λ q. absurd (omega arith)))
-      (λ f. every-plain _ _ _ (λ q. absurd (omega arith)) every-fine)))))
-      (λ f. every-plain _ _ _ (λ q. absurd (omega arith)) every-fine))
-      (λ f. every-plain _ _ _ (λ q. absurd (omega arith)) (every-plain _ _ _ (λ q. absurd (omega arith)) (every-plain _ _ _ (λ q. absurd (omega arith)) every-fine)))
+  read_every : (count n : ℕ) → Every (Where11 Unknown) (read_verdict bytes count n)
+  unfolding read_verdict head_verdict first_verdict_of
+  read_every count n =
+      every_then (head_verdict bytes) _
+      (every_then (first_verdict bytes) _
+      (every_refuse _ _ _ (λ t q. absurd (omega arith))
+      (λ long. every_refuse _ _ _ (λ t q. (ltb-false (length bytes) 3 long, neither (edition_in bytes) (not-true _ t)))
+      (λ known. every_plain _ _ _ (λ q. absurd (omega arith))
+      (every_then _ _
+      (numbers_every _ _ _ _ _ (λ q. absurd (omega arith)) (λ t q. absurd (omega arith)) (λ q. absurd (omega arith)) (λ q. absurd (omega arith)))
+      (λ f. every_plain _ _ _ (λ q. absurd (omega arith)) every_fine)))))
+      (λ f. every_plain _ _ _ (λ q. absurd (omega arith)) every_fine))
+      (λ f. every_plain _ _ _ (λ q. absurd (omega arith)) (every_plain _ _ _ (λ q. absurd (omega arith)) (every_plain _ _ _ (λ q. absurd (omega arith)) every_fine)))
 
-module _ (bytes points row points′ row′ : List ℕ) (s : SlipRead) (x : Read bytes points row s points′ row′) where
-  pub refused-by : (y : Refusal) → firstVerdict bytes ≡ Refused y → s .answer ≡ No y
+module _ (bytes points row points' row' : List ℕ) (s : SlipRead) (x : Read bytes points row s points' row') where
+  pub refused_by : (y : Refusal) → first_verdict bytes ≡ Refused y → s.answer ≡ No y
   unfolding answer
-  refused-by y e = answered x ∙ rw (first-read bytes y e (length points) (length row))
+  refused_by y e = answered x ∙ rw (first_read bytes y e (length points) (length row))
 
-  pub read-unknown : 3 ≤ length bytes → Neither (editionIn bytes) → s .answer ≡ No Edition
-  read-unknown long n = refused-by Edition (first-unknown bytes long n)
+  pub read_unknown : 3 ≤ length bytes → Neither (edition_in bytes) → s.answer ≡ No Edition
+  read_unknown long n = refused_by Edition (first_unknown bytes long n)
 
-  pub unknown-read : s .answer ≡ No Edition → (3 ≤ length bytes) × Neither (editionIn bytes)
-  unknown-read e = read-every bytes (length points) (length row) .of Edition (answer-refused _ _ Edition (sym (answered x) ∙ e)) refl
+  pub unknown_read : s.answer ≡ No Edition → (3 ≤ length bytes) × Neither (edition_in bytes)
+  unknown_read e = (read_every bytes (length points) (length row)).of Edition (answer_refused _ _ Edition (sym (answered x) ∙ e)) refl
 
   -- A SLIP OF EDITION 2 UNDER 4 BYTES IS 10, STRAIGHT AFTER 11
-  pub read-cut : editionIn bytes ≡ 2 → length bytes < 4 → s .answer ≡ No SlipShort
-  read-cut e l = refused-by SlipShort (first-cut bytes e l)
+  pub read_cut : edition_in bytes ≡ 2 → length bytes < 4 → s.answer ≡ No SlipShort
+  read_cut e l = refused_by SlipShort (first_cut bytes e l)
 
-  -- THE READER SAYS WHICH EDITION IT FOUND, and that is 1 or 2; where it is refused it says 0 (`Slip.antt:read-refused`)
-  pub read-says : (d : ℕ) → s .answer ≡ Done d → (s .edition ≡ editionIn bytes) × ((s .edition ≡ 1) ⊎ (s .edition ≡ 2))
+  -- THE READER SAYS WHICH EDITION IT FOUND, and that is 1 or 2; where it is refused it says 0 (`Slip.antt:read_refused`)
+  pub read_says : (d : ℕ) → s.answer ≡ Done d → (s.edition ≡ edition_in bytes) × ((s.edition ≡ 1) ⊎ (s.edition ≡ 2))
   unfolding reading
-  read-says d done =
-      rw (read-numbers x d done)
-      (refl, either (editionIn bytes) (read-sound bytes _ _ (read-fine x d done) .known))
+  read_says d done =
+      rw (read_numbers x d done)
+      (refl, either (edition_in bytes) (read_sound bytes _ _ (read_fine x d done)).known)

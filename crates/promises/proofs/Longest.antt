@@ -1,150 +1,150 @@
 -- The longest row: 240 symbols for encode, decode and distance and in a slip of edition 2, 128 in one of edition 1.
-use Prim.Native.Nat.{ℕ, _*_, _/_, _%_, _^_, _<_, _≤_}
+use Prim.Native.Nat.{ℕ, ◌*◌, ◌/◌, ◌%◌, ◌^◌, ◌<◌, ◌≤◌}
 use mathlib.Core.Bool.{true}
-use mathlib.Core.Path.{_≡_, refl, _∙_}
+use mathlib.Core.Path.{◌≡◌, refl, ◌∙◌}
 use mathlib.Core.List.{List}
 use native.Mathlib.Omega.{arith}
 use lib.ListN.{length}
-use borrow.Author.Tests.{lt-ltb, le-ltb, eq-eqb, ne-eqb}
-use Rattle·defs.specs.Field.{Width}
-use Rattle·defs.specs.Distance.{distance}
-use Rattle·defs.specs.Refusal.{refuse, andThen, answer}
-use Rattle·defs.specs.Limits.{deepest, longest, isWidth, numbersVerdict, codeVerdict, Within, Inside}
-use Rattle·defs.specs.Encode.{encodeVerdict, Encoded, distanceVerdict, distanceAnswer}
-use Rattle·defs.specs.Decode.{decodeVerdict, Decoded, refused}
-use Rattle·defs.specs.Slip.{isEdition, layoutOf, headBits, slipSize, longestSlip, editionIn, layoutIn, widthIn, depthIn, countIn, dimensionIn}
-use Rattle·defs.specs.Write.{writeVerdict, Written}
-use Rattle·defs.specs.Read.{firstVerdictOf, firstVerdict, reading, Read}
-use Rattle·defs.specs.declared.Refusal.the-variants.{Points, Length}
-use Rattle·defs.specs.declared.Verdict.the-variants.{Refused}
-use Rattle·defs.specs.declared.Answer.{Answer}
-use Rattle·defs.specs.declared.Answer.the-variants.{Done, Refused as No}
-use Rattle·defs.specs.declared.SlipRead.{SlipRead}
-use Rattle·theory.proofs.Width.{by-width}
-use Rattle·theory.proofs.Layouts.{layout-top}
-use Rattle·theory.proofs.Limits.{numbers-top, within-known, inside-known, limits-within, limits-inside}
-use Rattle·theory.proofs.Verdict.{then-fine}
-use Rattle·slip.proofs.Reader.{laid-in}
-use Rattle·slip.proofs.Answered.{read-fine, read-numbers}
-use Rattle·slip.proofs.Taken.{read-sound}
-use Rattle·promises·proofs.proofs.Decode.{decode-same}
-use Rattle·line.specs.Text.{room}
-use Rattle·promises·proofs.proofs.Edition.{refused-by}
-use Rattle·promises·proofs.proofs.Enough.{enoughBytes}
+use borrow.Author.Tests.{lt-ltb, le-ltb, eq-eqb, ne_eqb}
+use Rattle.defs.specs.Field.{Width}
+use Rattle.defs.specs.Distance.{distance}
+use Rattle.defs.specs.Refusal.{refuse, and_then, answer}
+use Rattle.defs.specs.Limits.{deepest, longest, is_width, numbers_verdict, code_verdict, Within, Inside}
+use Rattle.defs.specs.Encode.{encode_verdict, Encoded, distance_verdict, distance_answer}
+use Rattle.defs.specs.Decode.{decode_verdict, Decoded, refused}
+use Rattle.defs.specs.Slip.{is_edition, layout_of, head_bits, slip_size, longest_slip, edition_in, layout_in, width_in, depth_in, count_in, dimension_in}
+use Rattle.defs.specs.Write.{write_verdict, Written}
+use Rattle.defs.specs.Read.{first_verdict_of, first_verdict, reading, Read}
+use Rattle.defs.specs.declared.Refusal.TheVariants.{Points, Length}
+use Rattle.defs.specs.declared.Verdict.TheVariants.{Refused}
+use Rattle.defs.specs.declared.Answer.{Answer}
+use Rattle.defs.specs.declared.Answer.TheVariants.{Done, Refused as No}
+use Rattle.defs.specs.declared.SlipRead.{SlipRead}
+use Rattle.theory.proofs.Width.{by_width}
+use Rattle.theory.proofs.Layouts.{layout_top}
+use Rattle.theory.proofs.Limits.{numbers_top, within_known, inside_known, limits_within, limits_inside}
+use Rattle.theory.proofs.Verdict.{then_fine}
+use Rattle.slip.proofs.Reader.{laid_in}
+use Rattle.slip.proofs.Answered.{read_fine, read_numbers}
+use Rattle.slip.proofs.Taken.{read_sound}
+use Rattle.promises.proofs.Decode.{decode_same}
+use Rattle.line.specs.Text.{room}
+use Rattle.promises.proofs.Edition.{refused_by}
+use Rattle.promises.proofs.Enough.{enough_bytes}
 
 -- so long; of the longest slip so many bytes, and one more decides; and a line has no more than its room
-pub figures : (longest ≡ 240) × (layoutOf 1 .top ≡ 128) × (layoutOf 2 .top ≡ 240) × (longestSlip ≡ 484) × (enoughBytes ≡ 485) × (room ≡ 1448)
-unfolding layoutOf slipSize headBits
+pub figures : (longest ≡ 240) × ((layout_of 1).top ≡ 128) × ((layout_of 2).top ≡ 240) × (longest_slip ≡ 484) × (enough_bytes ≡ 485) × (room ≡ 1448)
+unfolding layout_of slip_size head_bits
 figures = (refl, refl, refl, refl, refl, refl)
 
 -- ---- rows up to the top of an edition
 
 module _ (edition m r k : ℕ) (points : List ℕ) where
   -- a code is inside the limits of an edition exactly where it is inside the limits and its rows are no longer than the edition's
-  pub row-within : Inside m r k points → r * length points ≤ layoutOf edition .top → Within (layoutOf edition .top) m r k points
-  row-within i short = limits-within _ m r k points (inside-known m r k points i) short
+  pub row_within : Inside m r k points → r * length points ≤ (layout_of edition).top → Within (layout_of edition).top m r k points
+  row_within i short = limits_within _ m r k points (inside_known m r k points i) short
 
-  pub within-row : Within (layoutOf edition .top) m r k points → Inside m r k points × (r * length points ≤ layoutOf edition .top)
-  unfolding codeVerdict
-  within-row e = (
-    limits-inside m r k points (within-known _ m r k points (layout-top edition) e),
-    numbers-top (layoutOf edition .top) m r k (length points) (layout-top edition) (then-fine _ _ e .0),
+  pub within_row : Within (layout_of edition).top m r k points → Inside m r k points × (r * length points ≤ (layout_of edition).top)
+  unfolding code_verdict
+  within_row e = (
+    limits_inside m r k points (within_known _ m r k points (layout_top edition) e),
+    numbers_top (layout_of edition).top m r k (length points) (layout_top edition) (then_fine _ _ e).0,
   )
 
 -- so what the reader takes has no longer rows
-pub read-row : (bytes points row points′ row′ : List ℕ) (s : SlipRead) → Read bytes points row s points′ row′ → (d : ℕ) → s .answer ≡ Done d
-    → s .r * s .count ≤ layoutOf (s .edition) .top
-unfolding reading layoutIn
-read-row bytes points row points′ row′ s x d done =
-    let sound = read-sound bytes _ _ (read-fine x d done) in
-    rw (read-numbers x d done) (numbers-top (layoutIn bytes .top) _ _ _ _ (laid-in bytes .top-low) (sound .fine))
+pub read_row : (bytes points row points' row' : List ℕ) (s : SlipRead) → Read bytes points row s points' row' → (d : ℕ) → s.answer ≡ Done d
+    → s.r * s.count ≤ (layout_of s.edition).top
+unfolding reading layout_in
+read_row bytes points row points' row' s x d done =
+    let sound = read_sound bytes _ _ (read_fine x d done) in
+    rw (read_numbers x d done) (numbers_top (layout_in bytes).top _ _ _ _ (laid_in bytes).top_low sound.fine)
 
 -- ---- 3 for a longer row
 
 -- field, depth and points are fine, and a row of them has more symbols than top
 pub record Over (top m r count : ℕ) : Type 0 where
   pub width : Width m
-  pub r-pos : 0 < r
-  pub r-top : r ≤ deepest
-  pub count-pos : 0 < count
-  pub count-top : count ≤ 2 ^ m
+  pub r_pos : 0 < r
+  pub r_top : r ≤ deepest
+  pub count_pos : 0 < count
+  pub count_top : count ≤ 2 ^ m
   pub above : top < r * count
 
-numbers-over : (top m r k count : ℕ) → Over top m r count → numbersVerdict top m r k count ≡ Refused Points
-unfolding numbersVerdict refuse
-numbers-over top m r k count o =
+numbers_over : (top m r k count : ℕ) → Over top m r count → numbers_verdict top m r k count ≡ Refused Points
+unfolding numbers_verdict refuse
+numbers_over top m r k count o =
     rw (
-      by-width (λ m. isWidth m ≡ true) refl refl refl m (o .width),
-      ne-eqb r 0 (omega (arith, o .r-pos)),
-      le-ltb deepest r (o .r-top),
-      ne-eqb count 0 (omega (arith, o .count-pos)),
-      le-ltb (2 ^ m) count (o .count-top),
-      lt-ltb top (r * count) (o .above),
+      by_width (λ m. is_width m ≡ true) refl refl refl m o.width,
+      ne_eqb r 0 (omega (arith, o.r_pos)),
+      le-ltb deepest r o.r_top,
+      ne_eqb count 0 (omega (arith, o.count_pos)),
+      le-ltb (2 ^ m) count o.count_top,
+      lt-ltb top (r * count) o.above,
     )
 
 module _ (m r k : ℕ) (points : List ℕ) where
-  code-over : (top : ℕ) → Over top m r (length points) → codeVerdict top m r k points ≡ Refused Points
-  unfolding codeVerdict andThen
-  code-over top o = rw (numbers-over top m r k (length points) o)
+  code_over : (top : ℕ) → Over top m r (length points) → code_verdict top m r k points ≡ Refused Points
+  unfolding code_verdict and_then
+  code_over top o = rw (numbers_over top m r k (length points) o)
 
   -- encode and decode
   module _ (over : Over longest m r (length points)) where
-    pub encode-over : (message row : List ℕ) (a : Answer) (row′ : List ℕ) → Encoded m r k points message row a row′ → a ≡ No Points
-    unfolding encodeVerdict andThen answer
-    encode-over message row a row′ x = x .answers ∙ rw (code-over longest over)
+    pub encode_over : (message row : List ℕ) (a : Answer) (row' : List ℕ) → Encoded m r k points message row a row' → a ≡ No Points
+    unfolding encode_verdict and_then answer
+    encode_over message row a row' x = x.answers ∙ rw (code_over longest over)
 
-    pub decode-over : (w message depth : List ℕ) (a : Answer) (message′ depth′ : List ℕ) → Decoded m r k points w message depth a message′ depth′ → a ≡ No Points
-    unfolding decodeVerdict andThen
-    decode-over w message depth a message′ depth′ x =
-        decode-same m r k points w message depth a (No Points) message′ depth′ message depth x (refused Points (rw (code-over longest over)) refl refl refl) .0
+    pub decode_over : (w message depth : List ℕ) (a : Answer) (message' depth' : List ℕ) → Decoded m r k points w message depth a message' depth' → a ≡ No Points
+    unfolding decode_verdict and_then
+    decode_over w message depth a message' depth' x =
+        (decode_same m r k points w message depth a (No Points) message' depth' message depth x (refused Points (rw (code_over longest over)) refl refl refl)).0
 
   -- the writer, by the edition
-  pub write-over : (edition : ℕ) → isEdition edition ≡ true → Over (layoutOf edition .top) m r (length points)
-      → (w bytes : List ℕ) (a : Answer) (bytes′ : List ℕ) → Written edition m r k points w bytes a bytes′ → a ≡ No Points
-  unfolding writeVerdict refuse andThen answer
-  write-over edition known over w bytes a bytes′ x = x .answers ∙ rw (known, code-over (layoutOf edition .top) over)
+  pub write_over : (edition : ℕ) → is_edition edition ≡ true → Over (layout_of edition).top m r (length points)
+      → (w bytes : List ℕ) (a : Answer) (bytes' : List ℕ) → Written edition m r k points w bytes a bytes' → a ≡ No Points
+  unfolding write_verdict refuse and_then answer
+  write_over edition known over w bytes a bytes' x = x.answers ∙ rw (known, code_over (layout_of edition).top over)
 
 -- and the reader, by the edition that it finds
-first-over : (bytes : List ℕ) → isEdition (editionIn bytes) ≡ true → headBits (layoutIn bytes) / 8 ≤ length bytes
-    → Over (layoutIn bytes .top) (widthIn bytes) (depthIn bytes) (countIn bytes) → firstVerdict bytes ≡ Refused Points
-unfolding firstVerdictOf refuse andThen
-first-over bytes known whole over =
+first_over : (bytes : List ℕ) → is_edition (edition_in bytes) ≡ true → head_bits (layout_in bytes) / 8 ≤ length bytes
+    → Over (layout_in bytes).top (width_in bytes) (depth_in bytes) (count_in bytes) → first_verdict bytes ≡ Refused Points
+unfolding first_verdict_of refuse and_then
+first_over bytes known whole over =
     rw (
-      le-ltb (length bytes) 3 (omega (arith, laid-in bytes .bytes-bottom)),
+      le-ltb (length bytes) 3 (omega (arith, (laid_in bytes).bytes_bottom)),
       known,
-      le-ltb (length bytes) (headBits (layoutIn bytes) / 8) whole,
-      numbers-over _ _ _ (dimensionIn bytes) _ over,
+      le-ltb (length bytes) (head_bits (layout_in bytes) / 8) whole,
+      numbers_over _ _ _ (dimension_in bytes) _ over,
     )
 
-pub read-over : (bytes : List ℕ) → isEdition (editionIn bytes) ≡ true → headBits (layoutIn bytes) / 8 ≤ length bytes
-    → Over (layoutIn bytes .top) (widthIn bytes) (depthIn bytes) (countIn bytes)
-    → (points row points′ row′ : List ℕ) (s : SlipRead) → Read bytes points row s points′ row′ → s .answer ≡ No Points
-read-over bytes known whole over points row points′ row′ s x = refused-by bytes points row points′ row′ s x Points (first-over bytes known whole over)
+pub read_over : (bytes : List ℕ) → is_edition (edition_in bytes) ≡ true → head_bits (layout_in bytes) / 8 ≤ length bytes
+    → Over (layout_in bytes).top (width_in bytes) (depth_in bytes) (count_in bytes)
+    → (points row points' row' : List ℕ) (s : SlipRead) → Read bytes points row s points' row' → s.answer ≡ No Points
+read_over bytes known whole over points row points' row' s x = refused_by bytes points row points' row' s x Points (first_over bytes known whole over)
 
 -- ---- distance
 
 -- rows of one length, at most 240 symbols in whole chunks
-pub distance-done : (r : ℕ) (u w : List ℕ) → 0 < r → r ≤ deepest → length u ≡ length w → 0 < length u → length u ≤ longest → length u % r ≡ 0
-    → distanceAnswer r u w ≡ Done (distance r (length u / r) u w)
-unfolding distanceAnswer distanceVerdict refuse answer
-distance-done r u w pos top same some short chunks =
+pub distance_done : (r : ℕ) (u w : List ℕ) → 0 < r → r ≤ deepest → length u ≡ length w → 0 < length u → length u ≤ longest → length u % r ≡ 0
+    → distance_answer r u w ≡ Done (distance r (length u / r) u w)
+unfolding distance_answer distance_verdict refuse answer
+distance_done r u w pos top same some short chunks =
     rw (
-      ne-eqb r 0 (omega arith),
+      ne_eqb r 0 (omega arith),
       le-ltb deepest r top,
       eq-eqb (length u) (length w) same,
-      ne-eqb (length u) 0 (omega arith),
+      ne_eqb (length u) 0 (omega arith),
       le-ltb longest (length u) short,
       eq-eqb (length u % r) 0 chunks,
     )
 
 -- 7 for longer ones
-pub distance-over : (r : ℕ) (u w : List ℕ) → 0 < r → r ≤ deepest → length u ≡ length w → longest < length u → distanceAnswer r u w ≡ No Length
-unfolding distanceAnswer distanceVerdict refuse answer
-distance-over r u w pos top same over =
+pub distance_over : (r : ℕ) (u w : List ℕ) → 0 < r → r ≤ deepest → length u ≡ length w → longest < length u → distance_answer r u w ≡ No Length
+unfolding distance_answer distance_verdict refuse answer
+distance_over r u w pos top same over =
     rw (
-      ne-eqb r 0 (omega arith),
+      ne_eqb r 0 (omega arith),
       le-ltb deepest r top,
       eq-eqb (length u) (length w) same,
-      ne-eqb (length u) 0 (omega arith),
+      ne_eqb (length u) 0 (omega arith),
       lt-ltb longest (length u) over,
     )

@@ -1,138 +1,138 @@
 -- One row, one slip of each edition: bytes are read exactly when the writer makes them, what is read fixes the bytes, the bits that
 -- hold nothing are 0, and a walk over a roll does not look at them.
-use Prim.Native.Nat.{ℕ, _+_, _*_, _<_, _≤_}
-use mathlib.Core.Path.{_≡_, refl, ap, sym, _∙_}
-use mathlib.Core.Logic.{_⊎_, inl}
-use mathlib.Core.List.{List, [], _++_, append-nil}
+use Prim.Native.Nat.{ℕ, ◌+◌, ◌*◌, ◌<◌, ◌≤◌}
+use mathlib.Core.Path.{◌≡◌, refl, ap, sym, ◌∙◌}
+use mathlib.Core.Logic.{◌⊎◌, inl}
+use mathlib.Core.List.{List, [], ◌++◌, append-nil}
 use native.Mathlib.Omega.{arith}
-use lib.ListN.{length, getD, take}
-use lib.Seq.{take-all, drop-length}
-use Rattle·defs.specs.Place.{Symbols}
-use Rattle·defs.specs.Refusal.{answer, kept}
-use Rattle·defs.specs.Slip.{allBits, numberAt, headBits, slipSize, slipOf, editionIn, layoutIn, widthIn, depthIn, dimensionIn, pointsIn, rowIn, usedIn}
-use Rattle·defs.specs.Write.{front, Written}
-use Rattle·defs.specs.Read.{firstVerdictOf, firstVerdict, headVerdict, readVerdict, reading, Read}
-use Rattle·defs.specs.Roll.{rollVerdict, firstPart, joined, walk}
-use Rattle·defs.specs.declared.Verdict.{Verdict}
-use Rattle·defs.specs.declared.Verdict.the-variants.{Fine, Refused}
-use Rattle·defs.specs.declared.Answer.the-variants.{Done}
-use Rattle·defs.specs.declared.SlipRead.{SlipRead}
-use Rattle·slip.proofs.Bits.{number-same}
-use Rattle·slip.proofs.Canonical.{size-is, slip-read-whole}
-use Rattle·slip.proofs.Answered.{read-fine, read-numbers, points-in, row-in}
-use Rattle·slip.proofs.Taken.{length-points, length-row, row-low, read-sound, within}
-use Rattle·slip.proofs.Writer.{writable-fine}
-use Rattle·promises·proofs.proofs.Header.{SameHead, editions-same, layout-same, numbers-same, size-same, fields-head}
-use Rattle·roll.proofs.Parts.{none-found}
-use Rattle·promises·proofs.proofs.RoundTrip.{round-trip}
-use Rattle·promises·proofs.proofs.Roll.{rolls-same, first-some}
-use Rattle·promises·proofs.proofs.Walk.{Made, walked, whole-walk, found-whole, left-none}
+use lib.ListN.{length, get_or, take}
+use lib.Seq.{take_all, drop-length}
+use Rattle.defs.specs.Place.{Symbols}
+use Rattle.defs.specs.Refusal.{answer, kept}
+use Rattle.defs.specs.Slip.{all_bits, number_at, head_bits, slip_size, slip_of, edition_in, layout_in, width_in, depth_in, dimension_in, points_in, row_in, used_in}
+use Rattle.defs.specs.Write.{front, Written}
+use Rattle.defs.specs.Read.{first_verdict_of, first_verdict, head_verdict, read_verdict, reading, Read}
+use Rattle.defs.specs.Roll.{roll_verdict, first_part, joined, walk}
+use Rattle.defs.specs.declared.Verdict.{Verdict}
+use Rattle.defs.specs.declared.Verdict.TheVariants.{Fine, Refused}
+use Rattle.defs.specs.declared.Answer.TheVariants.{Done}
+use Rattle.defs.specs.declared.SlipRead.{SlipRead}
+use Rattle.slip.proofs.Bits.{number_same}
+use Rattle.slip.proofs.Canonical.{size_is, slip_read_whole}
+use Rattle.slip.proofs.Answered.{read_fine, read_numbers, points_inside, row_inside}
+use Rattle.slip.proofs.Taken.{length_points, length_row, row_low, read_sound, within}
+use Rattle.slip.proofs.Writer.{writable_fine}
+use Rattle.promises.proofs.Header.{SameHead, editions_same, layout_same, numbers_same, size_same, fields_head}
+use Rattle.roll.proofs.Parts.{none_found}
+use Rattle.promises.proofs.RoundTrip.{round_trip}
+use Rattle.promises.proofs.Roll.{rolls_same, first_some}
+use Rattle.promises.proofs.Walk.{Made, walked, whole_walk, found_whole, left_none}
 
 -- BYTES THAT THE WRITER MAKES ARE READ, with room for the points and the row
-pub made-read : (bytes : List ℕ) (x : Made bytes) (points row points′ row′ : List ℕ) (s : SlipRead) → length (x .points) ≤ length points → length (x .w) ≤ length row
-    → Read bytes points row s points′ row′ → s .answer ≡ Done 0
-made-read bytes x points row points′ row′ s a b t =
-    ap (λ (q : SlipRead). q .answer) (round-trip (x .edition) (x .m) (x .r) (x .k) (x .d) (x .points) (x .w) (x .bytes) (x .bytes′) (x .written) points row a b s points′ row′ (rw (x .is) at t) .0)
+pub made_read : (bytes : List ℕ) (x : Made bytes) (points row points' row' : List ℕ) (s : SlipRead) → length x.points ≤ length points → length x.w ≤ length row
+    → Read bytes points row s points' row' → s.answer ≡ Done 0
+made_read bytes x points row points' row' s a b t =
+    ap (λ (q : SlipRead). q.answer) (round_trip x.edition x.m x.r x.k x.d x.points x.w x.bytes x.bytes' x.written points row a b s points' row' (rw x.is at t)).0
 
 -- AND BYTES THAT ARE READ ARE MADE BY THE WRITER, from the edition, the code and the row that stand in them
-module _ (bytes : List ℕ) (are : Symbols 8 bytes) (points row points′ row′ : List ℕ) (s : SlipRead) (x : Read bytes points row s points′ row′) (d : ℕ) (done : s .answer ≡ Done d) where
-  abbrev taken : readVerdict bytes (length points) (length row) ≡ Fine
-  taken = read-fine x d done
+module _ (bytes : List ℕ) (are : Symbols 8 bytes) (points row points' row' : List ℕ) (s : SlipRead) (x : Read bytes points row s points' row') (d : ℕ) (done : s.answer ≡ Done d) where
+  abbrev taken : read_verdict bytes (length points) (length row) ≡ Fine
+  taken = read_fine x d done
 
-  pub whole : slipOf (layoutIn bytes) (widthIn bytes) (depthIn bytes) (dimensionIn bytes) (pointsIn bytes) (rowIn bytes) ≡ bytes
-  whole = slip-read-whole bytes are _ _ taken
+  pub whole : slip_of (layout_in bytes) (width_in bytes) (depth_in bytes) (dimension_in bytes) (points_in bytes) (row_in bytes) ≡ bytes
+  whole = slip_read_whole bytes are _ _ taken
 
-  size : slipSize (layoutIn bytes) (widthIn bytes) (length (pointsIn bytes) + length (rowIn bytes)) ≡ length bytes
-  size = size-is bytes are (read-sound bytes _ _ taken)
+  size : slip_size (layout_in bytes) (width_in bytes) (length (points_in bytes) + length (row_in bytes)) ≡ length bytes
+  size = size_is bytes are (read_sound bytes _ _ taken)
 
-  written : Written (editionIn bytes) (widthIn bytes) (depthIn bytes) (dimensionIn bytes) (pointsIn bytes) (rowIn bytes) bytes (Done (length bytes)) bytes
-  unfolding answer kept front layoutIn
+  written : Written (edition_in bytes) (width_in bytes) (depth_in bytes) (dimension_in bytes) (points_in bytes) (row_in bytes) bytes (Done (length bytes)) bytes
+  unfolding answer kept front layout_in
   written =
-      let v = writable-fine (editionIn bytes) _ _ _ (pointsIn bytes) (rowIn bytes) (length bytes) record {
-        known = read-sound bytes _ _ taken .known;
+      let v = writable_fine (edition_in bytes) _ _ _ (points_in bytes) (row_in bytes) (length bytes) record {
+        known = (read_sound bytes _ _ taken).known;
         within = within bytes _ _ taken;
-        row = length-row bytes ∙ ap (λ (c : ℕ). depthIn bytes * c) (sym (length-points bytes));
+        row = length_row bytes ∙ ap (λ (c : ℕ). depth_in bytes * c) (sym (length_points bytes));
         room = omega (arith, size);
-        symbols = row-low bytes;
+        symbols = row_low bytes;
       } in
       record { answers = rw (v, size); leaves = rw v (sym (rw whole (rw (drop-length bytes) (append-nil bytes)))) }
 
-  pub read-made : Made bytes
-  read-made = record {
-    edition = editionIn bytes;
-    m = widthIn bytes;
-    r = depthIn bytes;
-    k = dimensionIn bytes;
+  pub read_made : Made bytes
+  read_made = record {
+    edition = edition_in bytes;
+    m = width_in bytes;
+    r = depth_in bytes;
+    k = dimension_in bytes;
     d = length bytes;
-    points = pointsIn bytes;
-    w = rowIn bytes;
+    points = points_in bytes;
+    w = row_in bytes;
     bytes = bytes;
-    bytes′ = bytes;
+    bytes' = bytes;
     written = written;
-    is = sym (take-all (length bytes) bytes (omega arith));
+    is = sym (take_all (length bytes) bytes (omega arith));
   }
 
 -- TWO SLIPS THAT ARE READ WITH EQUAL EDITION, CODE AND ROW ARE EQUAL
-module _ (a b : List ℕ) (a-are : Symbols 8 a) (b-are : Symbols 8 b) (points row points′ row′ points₁ row₁ points₁′ row₁′ : List ℕ) (s t : SlipRead)
-    (x : Read a points row s points′ row′) (y : Read b points₁ row₁ t points₁′ row₁′) (d e : ℕ) (s-done : s .answer ≡ Done d) (t-done : t .answer ≡ Done e) where
-  pub equal-slips : (s .edition ≡ t .edition) → (s .m ≡ t .m) → (s .r ≡ t .r) → (s .k ≡ t .k) → take (s .count) points′ ≡ take (t .count) points₁′
-      → take (s .r * s .count) row′ ≡ take (t .r * t .count) row₁′ → a ≡ b
+module _ (a b : List ℕ) (a_are : Symbols 8 a) (b_are : Symbols 8 b) (points row points' row' points₁ row₁ points₁' row₁' : List ℕ) (s t : SlipRead)
+    (x : Read a points row s points' row') (y : Read b points₁ row₁ t points₁' row₁') (d e : ℕ) (s_done : s.answer ≡ Done d) (t_done : t.answer ≡ Done e) where
+  pub equal_slips : (s.edition ≡ t.edition) → (s.m ≡ t.m) → (s.r ≡ t.r) → (s.k ≡ t.k) → take s.count points' ≡ take t.count points₁'
+      → take (s.r * s.count) row' ≡ take (t.r * t.count) row₁' → a ≡ b
   unfolding reading
-  equal-slips o p q u v w =
-      let s-at = read-numbers x d s-done in
-      let t-at = read-numbers y e t-done in
-      let edition-same : editionIn a ≡ editionIn b = rw (s-at, t-at) at o in
-      let m-same : widthIn a ≡ widthIn b = rw (s-at, t-at) at p in
-      let r-same : depthIn a ≡ depthIn b = rw (s-at, t-at) at q in
-      let k-same : dimensionIn a ≡ dimensionIn b = rw (s-at, t-at) at u in
-      let points-same : pointsIn a ≡ pointsIn b = sym (points-in x d s-done) ∙ (rw (s-at, t-at) at v) ∙ points-in y e t-done in
-      let row-same : rowIn a ≡ rowIn b = sym (row-in x d s-done) ∙ (rw (s-at, t-at) at w) ∙ row-in y e t-done in
-      sym (whole a a-are points row points′ row′ s x d s-done) ∙ rw (editions-same a b edition-same, m-same, r-same, k-same, points-same, row-same) (whole b b-are points₁ row₁ points₁′ row₁′ t y e t-done)
+  equal_slips o p q u v w =
+      let s_at = read_numbers x d s_done in
+      let t_at = read_numbers y e t_done in
+      let edition_same : edition_in a ≡ edition_in b = rw (s_at, t_at) at o in
+      let m_same : width_in a ≡ width_in b = rw (s_at, t_at) at p in
+      let r_same : depth_in a ≡ depth_in b = rw (s_at, t_at) at q in
+      let k_same : dimension_in a ≡ dimension_in b = rw (s_at, t_at) at u in
+      let points_same : points_in a ≡ points_in b = sym (points_inside x d s_done) ∙ (rw (s_at, t_at) at v) ∙ points_inside y e t_done in
+      let row_same : row_in a ≡ row_in b = sym (row_inside x d s_done) ∙ (rw (s_at, t_at) at w) ∙ row_inside y e t_done in
+      sym (whole a a_are points row points' row' s x d s_done) ∙ rw (editions_same a b edition_same, m_same, r_same, k_same, points_same, row_same) (whole b b_are points₁ row₁ points₁' row₁' t y e t_done)
 
 -- ---- a walk looks at no bit that holds nothing
 
 -- a bit of the numbers in the header, or of a point or a symbol
 abbrev pub Told : List ℕ → ℕ → Type 0
-Told s p = (p < 9 + layoutIn s .countbits + layoutIn s .kbits) ⊎ ((headBits (layoutIn s) ≤ p) × (p < usedIn s))
+Told s p = (p < 9 + (layout_in s).countbits + (layout_in s).kbits) ⊎ ((head_bits (layout_in s) ≤ p) × (p < used_in s))
 
 -- t is s, but for the zero bits and the fill
 pub record Alike (s t : List ℕ) : Type 0 where
   pub size : length s ≡ length t
-  pub bits : (p : ℕ) → Told s p → getD (allBits 8 s) p 0 ≡ getD (allBits 8 t) p 0
+  pub bits : (p : ℕ) → Told s p → get_or (all_bits 8 s) p 0 ≡ get_or (all_bits 8 t) p 0
 
 module _ (s t : List ℕ) (x : Alike s t) where
-  field-same : (v p : ℕ) → p + v ≤ 9 + layoutIn s .countbits + layoutIn s .kbits → numberAt v p (allBits 8 s) ≡ numberAt v p (allBits 8 t)
-  field-same v p l = number-same v p p (allBits 8 s) (allBits 8 t) (λ i b. x .bits (p + i) (inl (omega arith)))
+  field_same : (v p : ℕ) → p + v ≤ 9 + (layout_in s).countbits + (layout_in s).kbits → number_at v p (all_bits 8 s) ≡ number_at v p (all_bits 8 t)
+  field_same v p l = number_same v p p (all_bits 8 s) (all_bits 8 t) (λ i b. x.bits (p + i) (inl (omega arith)))
 
-  heads-alike : SameHead t s
-  heads-alike = fields-head t s (λ v p l. sym (field-same v p l))
+  heads_alike : SameHead t s
+  heads_alike = fields_head t s (λ v p l. sym (field_same v p l))
 
-  alike-first : firstVerdict t ≡ firstVerdict s
-  unfolding firstVerdictOf
-  alike-first =
-      let h = heads-alike in
-      rw (x .size, h .edition, numbers-same h, layout-same h, size-same h)
+  alike_first : first_verdict t ≡ first_verdict s
+  unfolding first_verdict_of
+  alike_first =
+      let h = heads_alike in
+      rw (x.size, h.edition, numbers_same h, layout_same h, size_same h)
 
-  alike-head : headVerdict t ≡ headVerdict s
-  unfolding headVerdict
-  alike-head = rw (alike-first, x .size, size-same heads-alike)
+  alike_head : head_verdict t ≡ head_verdict s
+  unfolding head_verdict
+  alike_head = rw (alike_first, x.size, size_same heads_alike)
 
-  alike-roll : rollVerdict t ≡ rollVerdict s
-  alike-roll = rolls-same t s (sym (x .size)) alike-first
+  alike_roll : roll_verdict t ≡ roll_verdict s
+  alike_roll = rolls_same t s (sym x.size) alike_first
 
-  none-alike : length (firstPart s) ≡ 0 → length (firstPart t) ≡ 0
-  none-alike n = go (firstVerdict t) refl
+  none_alike : length (first_part s) ≡ 0 → length (first_part t) ≡ 0
+  none_alike n = go (first_verdict t) refl
     where
-      go : (v : Verdict) → firstVerdict t ≡ v → length (firstPart t) ≡ 0
-      go Fine e = absurd (omega (arith, first-some s (sym alike-first ∙ e)))
-      go (Refused y) e = ap length (none-found t y e)
+      go : (v : Verdict) → first_verdict t ≡ v → length (first_part t) ≡ 0
+      go Fine e = absurd (omega (arith, first_some s (sym alike_first ∙ e)))
+      go (Refused y) e = ap length (none_found t y e)
 
 -- ROLLS THAT DIFFER ONLY THERE are walked into slips of the same sizes, and the walk ends alike; a last slip that is cut may differ there too
-pub alike-walk : (roll : List ℕ) (slips : List (List ℕ)) (left : List ℕ) → length slips ≡ length (walk roll .slips)
-    → ((i : ℕ) → i < length slips → Alike (getD (walk roll .slips) i []) (getD slips i [])) → Alike (walk roll .left) left
-    → walk (joined slips ++ left) ≡ record { slips = slips; left = left; ended = walk roll .ended }
+pub alike_walk : (roll : List ℕ) (slips : List (List ℕ)) (left : List ℕ) → length slips ≡ length (walk roll).slips
+    → ((i : ℕ) → i < length slips → Alike (get_or (walk roll).slips i []) (get_or slips i [])) → Alike (walk roll).left left
+    → walk (joined slips ++ left) ≡ record { slips = slips; left = left; ended = (walk roll).ended }
 unfolding walk
-alike-walk roll slips left n h x =
-    rw (walked roll .ends, ← alike-roll _ _ x)
-    (whole-walk slips (λ i l. alike-head _ _ (h i l) ∙ found-whole roll i (omega arith)) left (none-alike _ _ x (left-none roll))
+alike_walk roll slips left n h x =
+    rw ((walked roll).ends, ← alike_roll _ _ x)
+    (whole_walk slips (λ i l. alike_head _ _ (h i l) ∙ found_whole roll i (omega arith)) left (none_alike _ _ x (left_none roll))
     (length (joined slips ++ left)) (omega arith))

@@ -1,16 +1,16 @@
 -- One outcome: two packed answers that a call's contract allows are equal, and so are the buffers.
 use Prim.Native.Nat.{ℕ}
-use mathlib.Core.Path.{_≡_, ap, sym, _∙_}
+use mathlib.Core.Path.{◌≡◌, ap, sym, ◌∙◌}
 use mathlib.Core.List.{List}
-use Rattle·defs.specs.Encode.{distanceAnswer}
-use Rattle·promises·proofs.proofs.Decode.{decode-same}
-use Rattle·promises·proofs.proofs.Slip.{written-same, read-same}
-use Rattle·promises·proofs.proofs.Line.{lined-unique}
-use Rattle·promises·proofs.proofs.Turn.{turned-same}
-use Rattle·promises·proofs.proofs.Levels.{levels-read-same, levels-write-same}
-use Rattle·plq.specs.Packed.{
+use Rattle.defs.specs.Encode.{distance_answer}
+use Rattle.promises.proofs.Decode.{decode_same}
+use Rattle.promises.proofs.Slip.{written_same, read_same}
+use Rattle.promises.proofs.Line.{lined_unique}
+use Rattle.promises.proofs.Turn.{turned_same}
+use Rattle.promises.proofs.Levels.{levels_read_same, levels_write_same}
+use Rattle.plq.specs.Packed.{
   packed,
-  packedRoll,
+  packed_roll,
   Packs,
   PackedEncoded,
   PackedDecoded,
@@ -23,57 +23,57 @@ use Rattle·plq.specs.Packed.{
 }
 
 -- equal answers are packed alike
-packs-same : {A : Type 0} {pack : A → ℕ} {C C′ : A → Type 0} {p q : ℕ} (x : Packs pack C p) (y : Packs pack C′ q) → x .answer ≡ y .answer → p ≡ q
-packs-same {pack = pack} x y e = x .packs ∙ ap pack e ∙ sym (y .packs)
+packs_same : {A : Type 0} {pack : A → ℕ} {C C' : A → Type 0} {p q : ℕ} (x : Packs pack C p) (y : Packs pack C' q) → x.answer ≡ y.answer → p ≡ q
+packs_same {pack = pack} x y e = x.packs ∙ ap pack e ∙ sym y.packs
 
-pub packed-encode-same : {m r k : ℕ} {points message row : List ℕ} {p q : ℕ} {s t : List ℕ}
+pub packed_encode_same : {m r k : ℕ} {points message row : List ℕ} {p q : ℕ} {s t : List ℕ}
     → PackedEncoded m r k points message row p s → PackedEncoded m r k points message row q t → (p ≡ q) × (s ≡ t)
-packed-encode-same x y = (packs-same x y (x .call .answers ∙ sym (y .call .answers)), x .call .leaves ∙ sym (y .call .leaves))
+packed_encode_same x y = (packs_same x y (x.call.answers ∙ sym y.call.answers), x.call.leaves ∙ sym y.call.leaves)
 
-pub packed-decode-same : (m r k : ℕ) (points w message depth : List ℕ) (p q : ℕ) (s t u v : List ℕ)
+pub packed_decode_same : (m r k : ℕ) (points w message depth : List ℕ) (p q : ℕ) (s t u v : List ℕ)
     → PackedDecoded m r k points w message depth p s t → PackedDecoded m r k points w message depth q u v → (p ≡ q) × (s ≡ u) × (t ≡ v)
-packed-decode-same m r k points w message depth p q s t u v x y =
-    let e = decode-same m r k points w message depth (x .answer) (y .answer) s t u v (x .call) (y .call) in
-    (packs-same x y (e .0), e .1, e .2)
+packed_decode_same m r k points w message depth p q s t u v x y =
+    let e = decode_same m r k points w message depth x.answer y.answer s t u v x.call y.call in
+    (packs_same x y e.0, e.1, e.2)
 
-pub packed-distance-same : (r : ℕ) (u w : List ℕ) {p q : ℕ} → p ≡ packed (distanceAnswer r u w) → q ≡ packed (distanceAnswer r u w) → p ≡ q
-packed-distance-same r u w x y = x ∙ sym y
+pub packed_distance_same : (r : ℕ) (u w : List ℕ) {p q : ℕ} → p ≡ packed (distance_answer r u w) → q ≡ packed (distance_answer r u w) → p ≡ q
+packed_distance_same r u w x y = x ∙ sym y
 
-pub packed-write-same : {edition m r k : ℕ} {points w bytes : List ℕ} {p q : ℕ} {s t : List ℕ}
+pub packed_write_same : {edition m r k : ℕ} {points w bytes : List ℕ} {p q : ℕ} {s t : List ℕ}
     → PackedWritten edition m r k points w bytes p s → PackedWritten edition m r k points w bytes q t → (p ≡ q) × (s ≡ t)
-packed-write-same x y =
-    let e = written-same (x .call) (y .call) in
-    (packs-same x y (e .0), e .1)
+packed_write_same x y =
+    let e = written_same x.call y.call in
+    (packs_same x y e.0, e.1)
 
-pub packed-read-same : {bytes points row : List ℕ} {p q : ℕ} {s t u v : List ℕ}
+pub packed_read_same : {bytes points row : List ℕ} {p q : ℕ} {s t u v : List ℕ}
     → PackedRead bytes points row p s t → PackedRead bytes points row q u v → (p ≡ q) × (s ≡ u) × (t ≡ v)
-packed-read-same x y =
-    let e = read-same (x .call) (y .call) in
-    (packs-same x y (e .0), e .1, e .2)
+packed_read_same x y =
+    let e = read_same x.call y.call in
+    (packs_same x y e.0, e.1, e.2)
 
-pub packed-line-same : {bytes buffer : List ℕ} {p q : ℕ} {s t : List ℕ}
+pub packed_line_same : {bytes buffer : List ℕ} {p q : ℕ} {s t : List ℕ}
     → PackedLined bytes buffer p s → PackedLined bytes buffer q t → (p ≡ q) × (s ≡ t)
-packed-line-same {bytes} {buffer} {s = s} {t = t} x y =
-    let e = lined-unique bytes buffer (x .answer) (y .answer) s t (x .call) (y .call) in
-    (packs-same x y (e .0), e .1)
+packed_line_same {bytes} {buffer} {s = s} {t = t} x y =
+    let e = lined_unique bytes buffer x.answer y.answer s t x.call y.call in
+    (packs_same x y e.0, e.1)
 
-pub packed-roll-same : (roll : List ℕ) {p q : ℕ} → p ≡ packedRoll roll → q ≡ packedRoll roll → p ≡ q
-packed-roll-same roll x y = x ∙ sym y
+pub packed_roll_same : (roll : List ℕ) {p q : ℕ} → p ≡ packed_roll roll → q ≡ packed_roll roll → p ≡ q
+packed_roll_same roll x y = x ∙ sym y
 
-pub packed-turn-same : {from to : ℕ} {slip bytes : List ℕ} {p q : ℕ} {s t : List ℕ}
+pub packed_turn_same : {from to : ℕ} {slip bytes : List ℕ} {p q : ℕ} {s t : List ℕ}
     → PackedTurned from to slip bytes p s → PackedTurned from to slip bytes q t → (p ≡ q) × (s ≡ t)
-packed-turn-same x y =
-    let e = turned-same (x .call) (y .call) in
-    (packs-same x y (e .0), e .1)
+packed_turn_same x y =
+    let e = turned_same x.call y.call in
+    (packs_same x y e.0, e.1)
 
-pub packed-levels-read-same : {m r : ℕ} {text row : List ℕ} {p q : ℕ} {s t : List ℕ}
+pub packed_levels_read_same : {m r : ℕ} {text row : List ℕ} {p q : ℕ} {s t : List ℕ}
     → PackedLevelsRead m r text row p s → PackedLevelsRead m r text row q t → (p ≡ q) × (s ≡ t)
-packed-levels-read-same {m} {r} {text} {row} {s = s} {t = t} x y =
-    let e = levels-read-same m r text row (x .answer) (y .answer) s t (x .call) (y .call) in
-    (packs-same x y (e .0), e .1)
+packed_levels_read_same {m} {r} {text} {row} {s = s} {t = t} x y =
+    let e = levels_read_same m r text row x.answer y.answer s t x.call y.call in
+    (packs_same x y e.0, e.1)
 
-pub packed-levels-write-same : {m r : ℕ} {w text : List ℕ} {p q : ℕ} {s t : List ℕ}
+pub packed_levels_write_same : {m r : ℕ} {w text : List ℕ} {p q : ℕ} {s t : List ℕ}
     → PackedLevelsWritten m r w text p s → PackedLevelsWritten m r w text q t → (p ≡ q) × (s ≡ t)
-packed-levels-write-same {m} {r} {w} {text} {s = s} {t = t} x y =
-    let e = levels-write-same m r w text (x .answer) (y .answer) s t (x .call) (y .call) in
-    (packs-same x y (e .0), e .1)
+packed_levels_write_same {m} {r} {w} {text} {s = s} {t = t} x y =
+    let e = levels_write_same m r w text x.answer y.answer s t x.call y.call in
+    (packs_same x y e.0, e.1)

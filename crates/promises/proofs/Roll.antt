@@ -1,201 +1,201 @@
 -- The first slip of a roll: one outcome, its header alone finds where it ends, what stands behind it changes nothing, and 12 is never answered.
-use Prim.Native.Nat.{ℕ, _+_, _*_, _<_, _≤_}
-use mathlib.Core.Bool.{Bool, true, _||_}
-use mathlib.Core.Path.{_≡_, refl, ap, sym, _∙_}
-use mathlib.Core.List.{List, [], _∷_, _++_}
+use Prim.Native.Nat.{ℕ, ◌+◌, ◌*◌, ◌<◌, ◌≤◌}
+use mathlib.Core.Bool.{Bool, true, ◌||◌}
+use mathlib.Core.Path.{◌≡◌, refl, ap, sym, ◌∙◌}
+use mathlib.Core.List.{List, [], ◌∷◌, ◌++◌}
 use native.Mathlib.Nat.{mul-le-mul}
-use native.Mathlib.Decide.{decLt}
+use native.Mathlib.Decide.{dec_lt}
 use native.Mathlib.Omega.{arith}
 use lib.Dec.{eqb, ltb, lit≤}
 use lib.ListN.{length, take, drop, length-append}
-use lib.Seq.{take-all, take-take, take-append-seam, take-append-le, drop-append-seam}
+use lib.Seq.{take_all, take-take, take-append_seam, take-append-le, drop-append_seam}
 use borrow.Author.Tests.{le-ltb}
-use Rattle·defs.specs.Refusal.{numberOf, number, refuse, andThen, answer, kept}
-use Rattle·defs.specs.Slip.{isEdition, layoutOf, headBits, slipSize, longestSlip, editionIn, layoutIn, widthIn, depthIn, countIn, sizeIn}
-use Rattle·defs.specs.Read.{firstVerdictOf, firstVerdict, headVerdict, readVerdict}
-use Rattle·defs.specs.Line.{lineOf, Line, refused}
-use Rattle·defs.specs.Roll.{rollVerdict, firstPart, restPart}
-use Rattle·defs.specs.declared.Refusal.{Refusal}
-use Rattle·defs.specs.declared.Refusal.the-variants.{SlipShort}
-use Rattle·defs.specs.declared.Verdict.{Verdict}
-use Rattle·defs.specs.declared.Verdict.the-variants.{Fine, Refused}
-use Rattle·defs.specs.declared.Answer.{Answer}
-use Rattle·defs.specs.declared.Answer.the-variants.{Refused as No}
-use Rattle·theory.proofs.Width.{by-width}
-use Rattle·theory.proofs.Verdict.{apart, then-fine, answer-refused, Every, every-fine}
-use Rattle·slip.proofs.Reader.{numbersIn, laid-in, numbers-are, Begins, header-top, begins, begun, head-fine, sound}
-use Rattle·slip.proofs.Refusals.{first-every}
-use Rattle·roll.proofs.Parts.{others-first, none-found, parts-join, first-within, rest-left, first-found, first-long}
-use Rattle·promises·proofs.proofs.Header.{headBytes, SameHead, layout-same, size-same, numbers-same, head-front, head-part, head-same}
+use Rattle.defs.specs.Refusal.{number_of, number, refuse, and_then, answer, kept}
+use Rattle.defs.specs.Slip.{is_edition, layout_of, head_bits, slip_size, longest_slip, edition_in, layout_in, width_in, depth_in, count_in, size_in}
+use Rattle.defs.specs.Read.{first_verdict_of, first_verdict, head_verdict, read_verdict}
+use Rattle.defs.specs.Line.{line_of, Line, refused}
+use Rattle.defs.specs.Roll.{roll_verdict, first_part, rest_part}
+use Rattle.defs.specs.declared.Refusal.{Refusal}
+use Rattle.defs.specs.declared.Refusal.TheVariants.{SlipShort}
+use Rattle.defs.specs.declared.Verdict.{Verdict}
+use Rattle.defs.specs.declared.Verdict.TheVariants.{Fine, Refused}
+use Rattle.defs.specs.declared.Answer.{Answer}
+use Rattle.defs.specs.declared.Answer.TheVariants.{Refused as No}
+use Rattle.theory.proofs.Width.{by_width}
+use Rattle.theory.proofs.Verdict.{apart, then_fine, answer_refused, Every, every_fine}
+use Rattle.slip.proofs.Reader.{numbers_in, laid_in, numbers_are, Begins, header_top, begins, begun, head_fine, sound}
+use Rattle.slip.proofs.Refusals.{first_every}
+use Rattle.roll.proofs.Parts.{others_first, none_found, parts_join, first_within, rest_left, first_found, first_long}
+use Rattle.promises.proofs.Header.{head_bytes, SameHead, layout_same, size_same, numbers_same, head_front, head_part, head_same}
 
 -- ---- one outcome
 
-pub roll-answer-same : (roll : List ℕ) (a b : Answer) → a ≡ answer (rollVerdict roll) 0 → b ≡ answer (rollVerdict roll) 0 → a ≡ b
-roll-answer-same roll a b x y = x ∙ sym y
+pub roll_answer_same : (roll : List ℕ) (a b : Answer) → a ≡ answer (roll_verdict roll) 0 → b ≡ answer (roll_verdict roll) 0 → a ≡ b
+roll_answer_same roll a b x y = x ∙ sym y
 
-pub roll-parts-same : (roll s t s′ t′ : List ℕ) → s ≡ firstPart roll → t ≡ restPart roll → s′ ≡ firstPart roll → t′ ≡ restPart roll → (s ≡ s′) × (t ≡ t′)
-roll-parts-same roll s t s′ t′ p q p′ q′ = (p ∙ sym p′, q ∙ sym q′)
+pub roll_parts_same : (roll s t s' t' : List ℕ) → s ≡ first_part roll → t ≡ rest_part roll → s' ≡ first_part roll → t' ≡ rest_part roll → (s ≡ s') × (t ≡ t')
+roll_parts_same roll s t s' t' p q p' q' = (p ∙ sym p', q ∙ sym q')
 
 -- ---- the first part
 
 -- a header, and a byte for the point and the symbol that are there at least
-size-bottom : (bytes : List ℕ) → numbersIn bytes ≡ Fine → headBytes bytes + 1 ≤ sizeIn bytes
-unfolding sizeIn slipSize
-size-bottom bytes e =
-    let n = numbers-are bytes e in
-    let symbols = countIn bytes + depthIn bytes * countIn bytes in
+size_bottom : (bytes : List ℕ) → numbers_in bytes ≡ Fine → head_bytes bytes + 1 ≤ size_in bytes
+unfolding size_in slip_size
+size_bottom bytes e =
+    let n = numbers_are bytes e in
+    let symbols = count_in bytes + depth_in bytes * count_in bytes in
     omega (
       arith,
-      mul-le-mul {n₁ = 1} {m₁ = 1} {n₂ = symbols} {m₂ = widthIn bytes} (omega (arith, n .count-pos))
-          (by-width (λ m. 1 ≤ m) (lit≤ tt) (lit≤ tt) (lit≤ tt) (widthIn bytes) (n .width)),
+      mul-le-mul {n₁ = 1} {m₁ = 1} {n₂ = symbols} {m₂ = width_in bytes} (omega (arith, n.count_pos))
+          (by_width (λ m. 1 ≤ m) (lit≤ tt) (lit≤ tt) (lit≤ tt) (width_in bytes) n.width),
     )
 
 -- a roll that begins with a slip has a first part
-pub first-some : (roll : List ℕ) → firstVerdict roll ≡ Fine → 4 ≤ length (firstPart roll)
-first-some roll e = omega (arith, first-long roll e, size-bottom roll (begins roll e .fine), laid-in roll .bytes-bottom)
+pub first_some : (roll : List ℕ) → first_verdict roll ≡ Fine → 4 ≤ length (first_part roll)
+first_some roll e = omega (arith, first_long roll e, size_bottom roll (begins roll e).fine, (laid_in roll).bytes_bottom)
 
 -- an empty roll is done, and both parts are empty
-pub empty-done : (rollVerdict [] ≡ Fine) × (firstPart [] ≡ []) × (restPart [] ≡ [])
-unfolding rollVerdict
-empty-done = (refl, none-left (firstPart []) (first-within []), none-left (restPart []) (omega (arith, length-append (firstPart []) (restPart []), ap length (parts-join []))))
+pub empty_done : (roll_verdict [] ≡ Fine) × (first_part [] ≡ []) × (rest_part [] ≡ [])
+unfolding roll_verdict
+empty_done = (refl, none_left (first_part []) (first_within []), none_left (rest_part []) (omega (arith, length-append (first_part []) (rest_part []), ap length (parts_join []))))
   where
-    none-left : (s : List ℕ) → length s ≤ 0 → s ≡ []
-    none-left [] l = refl
-    none-left (b ∷ s) l = absurd (omega arith)
+    none_left : (s : List ℕ) → length s ≤ 0 → s ≡ []
+    none_left [] l = refl
+    none_left (b ∷ s) l = absurd (omega arith)
 
 -- on a refusal the first part is empty and the part behind is the whole roll
-pub refused-parts : (roll : List ℕ) (x : Refusal) → rollVerdict roll ≡ Refused x → (firstPart roll ≡ []) × (restPart roll ≡ roll)
-unfolding firstPart restPart kept
-refused-parts roll x e = (rw e, rw e)
+pub refused_parts : (roll : List ℕ) (x : Refusal) → roll_verdict roll ≡ Refused x → (first_part roll ≡ []) × (rest_part roll ≡ roll)
+unfolding first_part rest_part kept
+refused_parts roll x e = (rw e, rw e)
 
-pub rolls-same : (a b : List ℕ) → length a ≡ length b → firstVerdict a ≡ firstVerdict b → rollVerdict a ≡ rollVerdict b
-unfolding rollVerdict
-rolls-same [] [] l e = refl
-rolls-same (x ∷ s) (y ∷ t) l e = e
-rolls-same [] (y ∷ t) l e = absurd (omega arith)
-rolls-same (x ∷ s) [] l e = absurd (omega arith)
+pub rolls_same : (a b : List ℕ) → length a ≡ length b → first_verdict a ≡ first_verdict b → roll_verdict a ≡ roll_verdict b
+unfolding roll_verdict
+rolls_same [] [] l e = refl
+rolls_same (x ∷ s) (y ∷ t) l e = e
+rolls_same [] (y ∷ t) l e = absurd (omega arith)
+rolls_same (x ∷ s) [] l e = absurd (omega arith)
 
 -- rolls of one length with equal headers, by the edition of one of them
-module _ (a b : List ℕ) (l : length a ≡ length b) (h : take (headBytes a) a ≡ take (headBytes a) b) where
-  heads-same : headBytes a ≤ length a → SameHead a b
-  heads-same whole = head-same (headBytes a) a b (omega arith) whole (omega arith) h
+module _ (a b : List ℕ) (l : length a ≡ length b) (h : take (head_bytes a) a ≡ take (head_bytes a) b) where
+  heads_same : head_bytes a ≤ length a → SameHead a b
+  heads_same whole = head_same (head_bytes a) a b (omega arith) whole (omega arith) h
 
-  first-same : firstVerdict a ≡ firstVerdict b
-  unfolding firstVerdictOf
-  first-same = go (decLt (length a) (headBytes a))
+  first_same : first_verdict a ≡ first_verdict b
+  unfolding first_verdict_of
+  first_same = go (dec_lt (length a) (head_bytes a))
     where
-      go : Dec (length a < headBytes a) → firstVerdict a ≡ firstVerdict b
-      go (yes s) = ap firstVerdict (sym (take-all (headBytes a) a (omega arith)) ∙ h ∙ take-all (headBytes a) b (omega arith))
+      go : Dec (length a < head_bytes a) → first_verdict a ≡ first_verdict b
+      go (yes s) = ap first_verdict (sym (take_all (head_bytes a) a (omega arith)) ∙ h ∙ take_all (head_bytes a) b (omega arith))
       go (no s) =
-          let q = heads-same (omega arith) in
-          rw (l, q .edition, numbers-same q, layout-same q, size-same q)
+          let q = heads_same (omega arith) in
+          rw (l, q.edition, numbers_same q, layout_same q, size_same q)
 
-  by-verdict : (v : Verdict) → firstVerdict a ≡ v → firstVerdict b ≡ v → length (firstPart a) ≡ length (firstPart b)
-  by-verdict Fine e e′ = first-long a e ∙ size-same (heads-same (begins a e .whole)) ∙ sym (first-long b e′)
-  by-verdict (Refused x) e e′ = ap length (none-found a x e ∙ sym (none-found b x e′))
+  by_verdict : (v : Verdict) → first_verdict a ≡ v → first_verdict b ≡ v → length (first_part a) ≡ length (first_part b)
+  by_verdict Fine e e' = first_long a e ∙ size_same (heads_same (begins a e).whole) ∙ sym (first_long b e')
+  by_verdict (Refused x) e e' = ap length (none_found a x e ∙ sym (none_found b x e'))
 
-  heads-decide : (answer (rollVerdict a) 0 ≡ answer (rollVerdict b) 0) × (length (firstPart a) ≡ length (firstPart b))
-  heads-decide = (ap (λ v. answer v 0) (rolls-same a b l first-same), by-verdict (firstVerdict b) first-same refl)
+  heads_decide : (answer (roll_verdict a) 0 ≡ answer (roll_verdict b) 0) × (length (first_part a) ≡ length (first_part b))
+  heads_decide = (ap (λ v. answer v 0) (rolls_same a b l first_same), by_verdict (first_verdict b) first_same refl)
 
 -- THE HEADER DECIDES: rolls of one length with equal first four bytes have one answer and one size
-pub header-decides : (a b : List ℕ) → length a ≡ length b → take 4 a ≡ take 4 b
-    → (answer (rollVerdict a) 0 ≡ answer (rollVerdict b) 0) × (length (firstPart a) ≡ length (firstPart b))
-header-decides a b l h =
-    let fewer = laid-in a .bytes-top in
-    heads-decide a b l (sym (take-take (headBytes a) 4 a fewer) ∙ ap (take (headBytes a)) h ∙ take-take (headBytes a) 4 b fewer)
+pub header_decides : (a b : List ℕ) → length a ≡ length b → take 4 a ≡ take 4 b
+    → (answer (roll_verdict a) 0 ≡ answer (roll_verdict b) 0) × (length (first_part a) ≡ length (first_part b))
+header_decides a b l h =
+    let fewer = (laid_in a).bytes_top in
+    heads_decide a b l (sym (take-take (head_bytes a) 4 a fewer) ∙ ap (take (head_bytes a)) h ∙ take-take (head_bytes a) 4 b fewer)
 
 -- and in edition 1 equal first three
-pub old-decides : (a b : List ℕ) → length a ≡ length b → editionIn a ≡ 1 → take 3 a ≡ take 3 b
-    → (answer (rollVerdict a) 0 ≡ answer (rollVerdict b) 0) × (length (firstPart a) ≡ length (firstPart b))
-unfolding layoutIn layoutOf headBits
-old-decides a b l e h =
-    let three : headBytes a ≡ 3 = rw e in
-    heads-decide a b l (rw three h)
+pub old_decides : (a b : List ℕ) → length a ≡ length b → edition_in a ≡ 1 → take 3 a ≡ take 3 b
+    → (answer (roll_verdict a) 0 ≡ answer (roll_verdict b) 0) × (length (first_part a) ≡ length (first_part b))
+unfolding layout_in layout_of head_bits
+old_decides a b l e h =
+    let three : head_bytes a ≡ 3 = rw e in
+    heads_decide a b l (rw three h)
 
 -- ---- what stands behind
 
 -- bytes that begin with a slip still do so in front of others
-begins-front : (s t : List ℕ) → Begins s → Begins (s ++ t)
-begins-front s t b =
-    let h = head-front s t (b .whole) in
+begins_front : (s t : List ℕ) → Begins s → Begins (s ++ t)
+begins_front s t b =
+    let h = head_front s t b.whole in
     record {
-      long = omega (arith, b .long, length-append s t);
-      known = rw (h .edition) (b .known);
-      whole = rw (layout-same h) (omega (arith, b .whole, length-append s t));
-      fine = numbers-same h ∙ b .fine;
-      size = omega (arith, size-same h, b .size, length-append s t);
+      long = omega (arith, b.long, length-append s t);
+      known = rw h.edition b.known;
+      whole = rw (layout_same h) (omega (arith, b.whole, length-append s t));
+      fine = numbers_same h ∙ b.fine;
+      size = omega (arith, size_same h, b.size, length-append s t);
     }
 
 -- a slip is found in front of whatever stands behind it
-module _ (s t : List ℕ) (e : headVerdict s ≡ Fine) where
+module _ (s t : List ℕ) (e : head_verdict s ≡ Fine) where
   pub alone : Begins s
-  unfolding headVerdict
-  alone = begins s (then-fine (firstVerdict s) _ e .0)
+  unfolding head_verdict
+  alone = begins s (then_fine (first_verdict s) _ e).0
 
-  front-fine : firstVerdict (s ++ t) ≡ Fine
-  front-fine = begun (s ++ t) (begins-front s t alone)
+  front_fine : first_verdict (s ++ t) ≡ Fine
+  front_fine = begun (s ++ t) (begins_front s t alone)
 
-  pub front-first : firstPart (s ++ t) ≡ s
-  front-first =
-      first-found (s ++ t) front-fine
-      ∙ ap (λ n. take n (s ++ t)) (size-same (head-front s t (alone .whole)) ∙ sym (sound s e .size)) ∙ take-append-seam s t
+  pub front_first : first_part (s ++ t) ≡ s
+  front_first =
+      first_found (s ++ t) front_fine
+      ∙ ap (λ n. take n (s ++ t)) (size_same (head_front s t alone.whole) ∙ sym (sound s e).size) ∙ take-append_seam s t
 
-  pub front-rest : restPart (s ++ t) ≡ t
-  front-rest = sym (rest-left (s ++ t)) ∙ ap (λ (u : List ℕ). drop (length u) (s ++ t)) front-first ∙ drop-append-seam s t
+  pub front_rest : rest_part (s ++ t) ≡ t
+  front_rest = sym (rest_left (s ++ t)) ∙ ap (λ (u : List ℕ). drop (length u) (s ++ t)) front_first ∙ drop-append_seam s t
 
 -- and what is found is a slip: the reader does not refuse it by 10, 11, 1, 3, 4 or 12
-pub first-whole : (roll : List ℕ) → firstVerdict roll ≡ Fine → headVerdict (firstPart roll) ≡ Fine
-first-whole roll e =
-    let s = firstPart roll in
+pub first_whole : (roll : List ℕ) → first_verdict roll ≡ Fine → head_verdict (first_part roll) ≡ Fine
+first_whole roll e =
+    let s = first_part roll in
     let b = begins roll e in
-    let size = first-long roll e in
-    let some : headBytes roll ≤ length s = omega (arith, size, size-bottom roll (b .fine)) in
-    let whole : headBytes (s ++ restPart roll) ≤ length s = rw (parts-join roll) some in
-    let q : SameHead roll s = rw (parts-join roll) at (head-part s (restPart roll) whole) in
-    let first : firstVerdict s ≡ Fine = begun s record {
-      long = omega (arith, first-some roll e);
-      known = rw (q .edition) at (b .known);
-      whole = rw (layout-same q) at some;
-      fine = sym (numbers-same q) ∙ b .fine;
-      size = omega (arith, size-same q, size);
+    let size = first_long roll e in
+    let some : head_bytes roll ≤ length s = omega (arith, size, size_bottom roll b.fine) in
+    let whole : head_bytes (s ++ rest_part roll) ≤ length s = rw (parts_join roll) some in
+    let q : SameHead roll s = rw (parts_join roll) at (head_part s (rest_part roll) whole) in
+    let first : first_verdict s ≡ Fine = begun s record {
+      long = omega (arith, first_some roll e);
+      known = rw q.edition at b.known;
+      whole = rw (layout_same q) at some;
+      fine = sym (numbers_same q) ∙ b.fine;
+      size = omega (arith, size_same q, size);
     } in
-    sym (head-fine s first (omega (arith, size-same q, size)))
+    sym (head_fine s first (omega (arith, size_same q, size)))
 
 -- ---- with the longest slip in sight the rest of the roll changes nothing
 
 -- so many bytes are never short of their size
-unsized : (bytes : List ℕ) → longestSlip ≤ length bytes → (v : Verdict) → numbersIn bytes ≡ v
-    → andThen v (refuse (ltb (length bytes) (sizeIn bytes)) SlipShort Fine) ≡ v
-unfolding andThen refuse
+unsized : (bytes : List ℕ) → longest_slip ≤ length bytes → (v : Verdict) → numbers_in bytes ≡ v
+    → and_then v (refuse (ltb (length bytes) (size_in bytes)) SlipShort Fine) ≡ v
+unfolding and_then refuse
 unsized bytes l (Refused x) e = refl
-unsized bytes l Fine e = rw (le-ltb (length bytes) (sizeIn bytes) (omega (arith, header-top bytes e)))
+unsized bytes l Fine e = rw (le-ltb (length bytes) (size_in bytes) (omega (arith, header_top bytes e)))
 
-module _ (s t : List ℕ) (l : longestSlip ≤ length s) where
+module _ (s t : List ℕ) (l : longest_slip ≤ length s) where
   four : 4 ≤ length s
-  unfolding slipSize headBits
+  unfolding slip_size head_bits
   four = omega arith
 
-  sight-head : SameHead (s ++ t) s
-  sight-head = head-front s t (omega (arith, four, laid-in s .bytes-top))
+  sight_head : SameHead (s ++ t) s
+  sight_head = head_front s t (omega (arith, four, (laid_in s).bytes_top))
 
-  verdict-front : firstVerdict (s ++ t) ≡ firstVerdict s
-  unfolding firstVerdictOf
-  verdict-front =
-      let h = sight-head in
+  verdict_front : first_verdict (s ++ t) ≡ first_verdict s
+  unfolding first_verdict_of
+  verdict_front =
+      let h = sight_head in
       let more : length s ≤ length (s ++ t) = omega (arith, length-append s t) in
-      rw (unsized (s ++ t) (omega arith) _ refl, unsized s l _ refl, le-ltb (length (s ++ t)) 3 (omega (arith, four)), le-ltb (length s) 3 (omega (arith, four)), h .edition, numbers-same h)
-      (rw (le-ltb (length (s ++ t)) (headBytes (s ++ t)) (omega (arith, four, laid-in (s ++ t) .bytes-top)), le-ltb (length s) (headBytes s) (omega (arith, four, laid-in s .bytes-top))))
+      rw (unsized (s ++ t) (omega arith) _ refl, unsized s l _ refl, le-ltb (length (s ++ t)) 3 (omega (arith, four)), le-ltb (length s) 3 (omega (arith, four)), h.edition, numbers_same h)
+      (rw (le-ltb (length (s ++ t)) (head_bytes (s ++ t)) (omega (arith, four, (laid_in (s ++ t)).bytes_top)), le-ltb (length s) (head_bytes s) (omega (arith, four, (laid_in s).bytes_top))))
 
-  part-front : (v : Verdict) → firstVerdict s ≡ v → firstPart (s ++ t) ≡ firstPart s
-  part-front Fine e =
-      first-found (s ++ t) (verdict-front ∙ e)
-      ∙ ap (λ n. take n (s ++ t)) (size-same sight-head) ∙ take-append-le (sizeIn s) s t (begins s e .size) ∙ sym (first-found s e)
-  part-front (Refused x) e = none-found (s ++ t) x (verdict-front ∙ e) ∙ sym (none-found s x e)
+  part_front : (v : Verdict) → first_verdict s ≡ v → first_part (s ++ t) ≡ first_part s
+  part_front Fine e =
+      first_found (s ++ t) (verdict_front ∙ e)
+      ∙ ap (λ n. take n (s ++ t)) (size_same sight_head) ∙ take-append-le (size_in s) s t (begins s e).size ∙ sym (first_found s e)
+  part_front (Refused x) e = none_found (s ++ t) x (verdict_front ∙ e) ∙ sym (none_found s x e)
 
-  pub in-sight : (answer (rollVerdict (s ++ t)) 0 ≡ answer (rollVerdict s) 0) × (firstPart (s ++ t) ≡ firstPart s)
-  in-sight =
-      let e = sym (others-first (s ++ t) (λ z. omega (arith, four, length-append s t))) ∙ verdict-front ∙ others-first s (λ z. omega (arith, four)) in
-      (ap (λ v. answer v 0) e, part-front (firstVerdict s) refl)
+  pub in_sight : (answer (roll_verdict (s ++ t)) 0 ≡ answer (roll_verdict s) 0) × (first_part (s ++ t) ≡ first_part s)
+  in_sight =
+      let e = sym (others_first (s ++ t) (λ z. omega (arith, four, length-append s t))) ∙ verdict_front ∙ others_first s (λ z. omega (arith, four)) in
+      (ap (λ v. answer v 0) e, part_front (first_verdict s) refl)
 
 -- ---- the numbers
 
@@ -203,30 +203,30 @@ module _ (s t : List ℕ) (l : longestSlip ≤ length s) where
 abbrev pub rolls : ℕ → Bool
 rolls n = eqb n 10 || (eqb n 11 || (eqb n 1 || (eqb n 3 || eqb n 4)))
 
-roll-every : (roll : List ℕ) → Every (λ x. rolls (numberOf x) ≡ true) (rollVerdict roll)
-unfolding rollVerdict
-roll-every [] = every-fine
-roll-every (b ∷ s) = first-every isEdition (b ∷ s) refl refl refl refl refl
+roll_every : (roll : List ℕ) → Every (λ x. rolls (number_of x) ≡ true) (roll_verdict roll)
+unfolding roll_verdict
+roll_every [] = every_fine
+roll_every (b ∷ s) = first_every is_edition (b ∷ s) refl refl refl refl refl
 
 -- a roll is refused by these alone
-pub roll-refusals : (roll : List ℕ) (x : Refusal) → answer (rollVerdict roll) 0 ≡ No x → rolls (numberOf x) ≡ true
-roll-refusals roll x e = roll-every roll .of x (answer-refused _ 0 x e)
+pub roll_refusals : (roll : List ℕ) (x : Refusal) → answer (roll_verdict roll) 0 ≡ No x → rolls (number_of x) ≡ true
+roll_refusals roll x e = (roll_every roll).of x (answer_refused _ 0 x e)
 
 -- and never by 12
-pub never-long : (roll : List ℕ) → number (answer (rollVerdict roll) 0) ≡ 12 → ⊥
+pub never_long : (roll : List ℕ) → number (answer (roll_verdict roll) 0) ≡ 12 → ⊥
 unfolding answer
-never-long roll e = go (rollVerdict roll) (roll-every roll) e
+never_long roll e = go (roll_verdict roll) (roll_every roll) e
   where
-    go : (v : Verdict) → Every (λ x. rolls (numberOf x) ≡ true) v → number (answer v 0) ≡ 12 → ⊥
+    go : (v : Verdict) → Every (λ x. rolls (number_of x) ≡ true) v → number (answer v 0) ≡ 12 → ⊥
     go Fine h q = omega arith
-    go (Refused x) h q = apart (cc (h .of x refl, q))
+    go (Refused x) h q = apart (cc (h.of x refl, q))
 
 -- AS FOR A SLIP: the reader refuses the same bytes by the same number, whatever room it is given
-pub refused-read : (roll : List ℕ) (x : Refusal) → rollVerdict roll ≡ Refused x → (count n : ℕ) → readVerdict roll count n ≡ Refused x
-unfolding rollVerdict readVerdict headVerdict andThen
-refused-read [] x e count n = absurd (apart cc)
-refused-read (b ∷ s) x e count n = rw e refl
+pub refused_read : (roll : List ℕ) (x : Refusal) → roll_verdict roll ≡ Refused x → (count n : ℕ) → read_verdict roll count n ≡ Refused x
+unfolding roll_verdict read_verdict head_verdict and_then
+refused_read [] x e count n = absurd (apart cc)
+refused_read (b ∷ s) x e count n = rw e refl
 
 -- so its line is the reader's
-pub refused-line : (roll : List ℕ) (x : Refusal) → answer (rollVerdict roll) 0 ≡ No x → Line roll (lineOf (No x) [] [])
-refused-line roll x e = refused x (refused-read roll x (answer-refused (rollVerdict roll) 0 x e) _ _) refl
+pub refused_line : (roll : List ℕ) (x : Refusal) → answer (roll_verdict roll) 0 ≡ No x → Line roll (line_of (No x) [] [])
+refused_line roll x e = refused x (refused_read roll x (answer_refused (roll_verdict roll) 0 x e) _ _) refl

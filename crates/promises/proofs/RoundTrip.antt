@@ -1,184 +1,184 @@
 -- A code and a row that were written as a slip, of either edition, are read from it again.
-use Prim.Native.Nat.{ℕ, suc, _+_, _*_, _-_, _<_, _≤_}
+use Prim.Native.Nat.{ℕ, suc, ◌+◌, ◌*◌, ◌-◌, ◌<◌, ◌≤◌}
 use mathlib.Core.Bool.{true}
-use mathlib.Core.Path.{_≡_, refl, ap, sym, _∙_}
-use mathlib.Core.List.{List, _++_}
-use native.Mathlib.Nat.{mul-suc, mul-comm, mul-le-mul-left, mod-eq-of-lt, zero-add}
+use mathlib.Core.Path.{◌≡◌, refl, ap, sym, ◌∙◌}
+use mathlib.Core.List.{List, ◌++◌}
+use native.Mathlib.Nat.{mul-suc, mul_comm, mul-le-mul_left, mod-eq_of_lt, zero-add}
 use native.Mathlib.Omega.{arith}
-use lib.ListN.{length, getD, take, length-append, List·getD-append}
-use lib.Seq.{getD-append-add}
+use lib.ListN.{length, get_or, take, length-append, get_or-append}
+use lib.Seq.{get_or-append-add}
 use borrow.Author.Tests.{ltb-false}
-use Rattle·defs.specs.Place.{Symbols}
-use Rattle·defs.specs.Refusal.{answer, kept}
-use Rattle·defs.specs.Limits.{numbersVerdict, firstTwice, codeVerdict, Within}
-use Rattle·defs.specs.Slip.{isEdition, layoutOf, allBits, numberAt, headBits, slipSize, slipBits, slipOf, editionIn, layoutIn, widthIn, depthIn, countIn, dimensionIn, symbolsIn, pointsIn, rowIn, spareIn, usedIn, sizeIn, fillIn}
-use Rattle·defs.specs.Write.{front, writeVerdict, Written}
-use Rattle·defs.specs.Read.{firstVerdict, headVerdict, readVerdict, Read}
-use Rattle·defs.specs.declared.Layout.{Layout}
-use Rattle·defs.specs.declared.Verdict.the-variants.{Fine}
-use Rattle·defs.specs.declared.Answer.the-variants.{Done}
-use Rattle·defs.specs.declared.SlipRead.{SlipRead}
-use Rattle·theory.proofs.Place.{length-tab, tab-same, tab-getD}
-use Rattle·theory.proofs.Verdict.{refuse-fine, then-fine, answer-done}
-use Rattle·slip.specs.declared.Head.{Head}
-use Rattle·slip.specs.Head.{headerBits, Fitting, Heads}
-use Rattle·slip.proofs.Bits.{length-all-bits, number-beyond, number-symbol}
-use Rattle·slip.proofs.Layouts.{laid, edition-own}
-use Rattle·slip.proofs.HeaderBits.{header-edition, header-width, header-depth, header-count, header-dimension, header-spare}
-use Rattle·slip.proofs.Packed.{number-back, slip-bits-are, in-header, behind-header}
-use Rattle·slip.proofs.Writer.{within-width, within-numbers, within-fits, within-symbols, Writable, writable}
-use Rattle·slip.proofs.Front.{take-front}
-use Rattle·slip.proofs.Reader.{size-in, Opened, first-fine, head-fine, Searched, read-fine, reading-done}
+use Rattle.defs.specs.Place.{Symbols}
+use Rattle.defs.specs.Refusal.{answer, kept}
+use Rattle.defs.specs.Limits.{numbers_verdict, first_twice, code_verdict, Within}
+use Rattle.defs.specs.Slip.{is_edition, layout_of, all_bits, number_at, head_bits, slip_size, slip_bits, slip_of, edition_in, layout_in, width_in, depth_in, count_in, dimension_in, symbols_in, points_in, row_in, spare_in, used_in, size_in, fill_in}
+use Rattle.defs.specs.Write.{front, write_verdict, Written}
+use Rattle.defs.specs.Read.{first_verdict, head_verdict, read_verdict, Read}
+use Rattle.defs.specs.declared.Layout.{Layout}
+use Rattle.defs.specs.declared.Verdict.TheVariants.{Fine}
+use Rattle.defs.specs.declared.Answer.TheVariants.{Done}
+use Rattle.defs.specs.declared.SlipRead.{SlipRead}
+use Rattle.theory.proofs.Place.{length_tab, tab_same, tab_get_d}
+use Rattle.theory.proofs.Verdict.{refuse_fine, then_fine, answer_done}
+use Rattle.slip.specs.declared.Head.{Head}
+use Rattle.slip.specs.Head.{header_bits, Fitting, Heads}
+use Rattle.slip.proofs.Bits.{length_all_bits, number_beyond, number_symbol}
+use Rattle.slip.proofs.Layouts.{laid, edition_own}
+use Rattle.slip.proofs.HeaderBits.{header_edition, header_width, header_depth, header_count, header_dimension, header_spare}
+use Rattle.slip.proofs.Packed.{number_back, slip_bits_are, in_header, behind_header}
+use Rattle.slip.proofs.Writer.{within_width, within_numbers, within_fits, within_symbols, Writable, writable}
+use Rattle.slip.proofs.Front.{take_front}
+use Rattle.slip.proofs.Reader.{size_inside, Opened, first_fine, head_fine, Searched, read_fine, reading_done}
 
-pub length-slip : (L : Layout) (m r k : ℕ) (points w : List ℕ) → length (slipOf L m r k points w) ≡ slipSize L m (length points + length w)
-unfolding slipOf
-length-slip L m r k points w = length-tab _ _
+pub length_slip : (L : Layout) (m r k : ℕ) (points w : List ℕ) → length (slip_of L m r k points w) ≡ slip_size L m (length points + length w)
+unfolding slip_of
+length_slip L m r k points w = length_tab _ _
 
 -- a slip of a known edition
-module _ (edition : ℕ) (known : isEdition edition ≡ true) (m r k : ℕ) (points w : List ℕ) where
+module _ (edition : ℕ) (known : is_edition edition ≡ true) (m r k : ℕ) (points w : List ℕ) where
   abbrev L : Layout
-  L = layoutOf edition
+  L = layout_of edition
 
   abbrev slip : List ℕ
-  slip = slipOf L m r k points w
+  slip = slip_of L m r k points w
 
-  module _ (e : Within (L .top) m r k points) (h : Symbols m w) where
+  module _ (e : Within L.top m r k points) (h : Symbols m w) where
     fits : Fitting L r k (length points)
-    fits = within-fits L (laid edition) m r k points e
+    fits = within_fits L (laid edition) m r k points e
 
     -- a field of the header, and a symbol behind it
-    field-back : (v p : ℕ) → p + v ≤ headBits L → numberAt v p (allBits 8 slip) ≡ numberAt v p (headerBits L m r k (length points))
-    unfolding slipOf slipSize
-    field-back v p l =
-        number-back v p (slipSize L m (length points + length w)) (slipBits L m r k points w) (slip-bits-are L m r k points w) (omega (arith, laid edition .whole))
-        ∙ in-header L m r k points w v p l
+    field_back : (v p : ℕ) → p + v ≤ head_bits L → number_at v p (all_bits 8 slip) ≡ number_at v p (header_bits L m r k (length points))
+    unfolding slip_of slip_size
+    field_back v p l =
+        number_back v p (slip_size L m (length points + length w)) (slip_bits L m r k points w) (slip_bits_are L m r k points w) (omega (arith, (laid edition).whole))
+        ∙ in_header L m r k points w v p l
 
-    symbol-back : (j : ℕ) → j < length points + length w → numberAt m (headBits L + m * j) (allBits 8 slip) ≡ getD (points ++ w) j 0
-    unfolding slipOf slipSize
-    symbol-back j l =
+    symbol_back : (j : ℕ) → j < length points + length w → number_at m (head_bits L + m * j) (all_bits 8 slip) ≡ get_or (points ++ w) j 0
+    unfolding slip_of slip_size
+    symbol_back j l =
         let N = length points + length w in
-        number-back m (headBits L + m * j) (slipSize L m N) (slipBits L m r k points w) (slip-bits-are L m r k points w)
-        (omega (arith, laid edition .whole, mul-suc m j, mul-comm m N, mul-le-mul-left {m = suc j} {n = N} m l))
-        ∙ behind-header L m r k points w m (m * j)
-        ∙ number-symbol m (points ++ w) j
-        ∙ mod-eq-of-lt (within-symbols L (laid edition) m r k points e w h j)
+        number_back m (head_bits L + m * j) (slip_size L m N) (slip_bits L m r k points w) (slip_bits_are L m r k points w)
+        (omega (arith, (laid edition).whole, mul-suc m j, mul_comm m N, mul-le-mul_left {m = suc j} {n = N} m l))
+        ∙ behind_header L m r k points w m (m * j)
+        ∙ number_symbol m (points ++ w) j
+        ∙ mod-eq_of_lt (within_symbols L (laid edition) m r k points e w h j)
 
-    pub edition-back : editionIn slip ≡ edition
-    unfolding editionIn headBits
-    edition-back = field-back 4 0 (omega arith) ∙ header-edition L m r k (length points) (laid edition) ∙ edition-own edition known
+    pub edition_back : edition_in slip ≡ edition
+    unfolding edition_in head_bits
+    edition_back = field_back 4 0 (omega arith) ∙ header_edition L m r k (length points) (laid edition) ∙ edition_own edition known
 
-    pub layout-back : layoutIn slip ≡ L
-    unfolding layoutIn
-    layout-back = ap layoutOf edition-back
+    pub layout_back : layout_in slip ≡ L
+    unfolding layout_in
+    layout_back = ap layout_of edition_back
 
     unfoldable pub head : Head
     head = record { edition = edition; layout = L; m = m; r = r; count = length points; k = k }
 
-    pub heads-back : Heads slip head
-    unfolding head widthIn depthIn countIn dimensionIn headBits
-    heads-back =
+    pub heads_back : Heads slip head
+    unfolding head width_in depth_in count_in dimension_in head_bits
+    heads_back =
         let n = length points in
         record {
-          edition-is = sym edition-back;
-          layout-is = sym layout-back;
-          m-is = sym (rw (field-back 2 4 (omega arith)) (header-width L m r k n (within-width L (laid edition) m r k points e)));
-          r-is = sym (rw (field-back 3 6 (omega arith)) (header-depth L m r k n fits));
-          count-is = sym (rw (layout-back, field-back (L .countbits) 9 (omega arith)) (header-count L m r k n fits));
-          k-is = sym (rw (layout-back, field-back (L .kbits) (9 + L .countbits) (omega arith)) (header-dimension L m r k n fits));
+          edition_is = sym edition_back;
+          layout_is = sym layout_back;
+          m_is = sym (rw (field_back 2 4 (omega arith)) (header_width L m r k n (within_width L (laid edition) m r k points e)));
+          r_is = sym (rw (field_back 3 6 (omega arith)) (header_depth L m r k n fits));
+          count_is = sym (rw (layout_back, field_back L.countbits 9 (omega arith)) (header_count L m r k n fits));
+          k_is = sym (rw (layout_back, field_back L.kbits (9 + L.countbits) (omega arith)) (header_dimension L m r k n fits));
         }
 
-    symbols-back : (past : ℕ) (s : List ℕ) → past + length s ≤ length points + length w
-        → ((j : ℕ) → j < length s → getD (points ++ w) (past + j) 0 ≡ getD s j 0) → symbolsIn slip past (length s) ≡ s
-    unfolding symbolsIn head
-    symbols-back past s l g =
-        rw (← heads-back .m-is, layout-back)
-        (tab-same _ (λ j. getD s j 0) (length s) (λ j b. symbol-back (past + j) (omega arith) ∙ g j b) ∙ tab-getD s)
+    symbols_back : (past : ℕ) (s : List ℕ) → past + length s ≤ length points + length w
+        → ((j : ℕ) → j < length s → get_or (points ++ w) (past + j) 0 ≡ get_or s j 0) → symbols_in slip past (length s) ≡ s
+    unfolding symbols_in head
+    symbols_back past s l g =
+        rw (← heads_back.m_is, layout_back)
+        (tab_same _ (λ j. get_or s j 0) (length s) (λ j b. symbol_back (past + j) (omega arith) ∙ g j b) ∙ tab_get_d s)
 
-    pub points-back : pointsIn slip ≡ points
-    unfolding pointsIn head
-    points-back =
-        rw (← heads-back .count-is) (symbols-back 0 points (omega arith) (λ j l. rw (zero-add j) (List·getD-append points w 0 j l)))
+    pub points_back : points_in slip ≡ points
+    unfolding points_in head
+    points_back =
+        rw (← heads_back.count_is) (symbols_back 0 points (omega arith) (λ j l. rw (zero-add j) (get_or-append points w 0 j l)))
 
     module _ (n : length w ≡ r * length points) where
-      pub row-back : rowIn slip ≡ w
-      unfolding rowIn head
-      row-back =
-          rw (← heads-back .r-is, ← heads-back .count-is, ← n) (symbols-back (length points) w (omega arith) (λ j l. getD-append-add points w j 0))
+      pub row_back : row_in slip ≡ w
+      unfolding row_in head
+      row_back =
+          rw (← heads_back.r_is, ← heads_back.count_is, ← n) (symbols_back (length points) w (omega arith) (λ j l. get_or-append-add points w j 0))
 
-      points-once : length points ≤ firstTwice points
-      unfolding codeVerdict
-      points-once =
-          let e1 = refuse-fine _ _ _ (then-fine (numbersVerdict (L .top) m r k (length points)) _ e .1) in
-          ltb-false (firstTwice points) (length points) (refuse-fine _ _ _ (e1 .1) .0)
+      points_once : length points ≤ first_twice points
+      unfolding code_verdict
+      points_once =
+          let e1 = refuse_fine _ _ _ (then_fine (numbers_verdict L.top m r k (length points)) _ e).1 in
+          ltb-false (first_twice points) (length points) (refuse_fine _ _ _ e1.1).0
 
-      pub head-back : headVerdict slip ≡ Fine
-      unfolding head slipSize
-      head-back =
-          let size : length slip ≡ slipSize L m (length points + r * length points) = length-slip L m r k points w ∙ ap (λ (x : ℕ). slipSize L m (length points + x)) n in
-          let opened : Opened slip head = record { long = omega (arith, size, laid edition .bytes-bottom); heads = heads-back; known = known; whole = omega (arith, size) } in
-          let first : firstVerdict slip ≡ Fine = sym (first-fine slip head opened (within-numbers L (laid edition) m r k points e) _ refl (omega (arith, size))) in
-          sym (head-fine slip first (omega (arith, size, size-in slip head heads-back)))
+      pub head_back : head_verdict slip ≡ Fine
+      unfolding head slip_size
+      head_back =
+          let size : length slip ≡ slip_size L m (length points + r * length points) = length_slip L m r k points w ∙ ap (λ (x : ℕ). slip_size L m (length points + x)) n in
+          let opened : Opened slip head = record { long = omega (arith, size, (laid edition).bytes_bottom); heads = heads_back; known = known; whole = omega (arith, size) } in
+          let first : first_verdict slip ≡ Fine = sym (first_fine slip head opened (within_numbers L (laid edition) m r k points e) _ refl (omega (arith, size))) in
+          sym (head_fine slip first (omega (arith, size, size_inside slip head heads_back)))
 
       -- nothing stands in the bits that hold nothing
-      spare-back : spareIn slip ≡ 0
-      unfolding spareIn headBits
-      spare-back = rw layout-back (field-back (L .zerobits) (9 + L .countbits + L .kbits) (omega arith) ∙ header-spare L m r k (length points))
+      spare_back : spare_in slip ≡ 0
+      unfolding spare_in head_bits
+      spare_back = rw layout_back (field_back L.zerobits (9 + L.countbits + L.kbits) (omega arith) ∙ header_spare L m r k (length points))
 
-      fill-back : fillIn slip ≡ 0
-      unfolding fillIn usedIn sizeIn head slipOf slipSize
-      fill-back =
+      fill_back : fill_in slip ≡ 0
+      unfolding fill_in used_in size_in head slip_of slip_size
+      fill_back =
           let N = length points + length w in
-          let S = slipBits L m r k points w in
-          let left = 8 * slipSize L m N - (headBits L + m * N) in
-          rw (layout-back, ← heads-back .m-is, ← heads-back .r-is, ← heads-back .count-is, ← n)
-          (number-back left (headBits L + m * N) (slipSize L m N) S (slip-bits-are L m r k points w) (omega (arith, laid edition .whole, mul-comm m N))
-          ∙ behind-header L m r k points w left (m * N)
-          ∙ number-beyond left (m * N) (allBits m (points ++ w)) (omega (arith, length-all-bits m (points ++ w), ap (λ (x : ℕ). m * x) (length-append points w))))
+          let S = slip_bits L m r k points w in
+          let left = 8 * slip_size L m N - (head_bits L + m * N) in
+          rw (layout_back, ← heads_back.m_is, ← heads_back.r_is, ← heads_back.count_is, ← n)
+          (number_back left (head_bits L + m * N) (slip_size L m N) S (slip_bits_are L m r k points w) (omega (arith, (laid edition).whole, mul_comm m N))
+          ∙ behind_header L m r k points w left (m * N)
+          ∙ number_beyond left (m * N) (all_bits m (points ++ w)) (omega (arith, length_all_bits m (points ++ w), ap (λ (x : ℕ). m * x) (length-append points w))))
 
-      pub verdict-back : (count size : ℕ) → length points ≤ count → length w ≤ size → readVerdict slip count size ≡ Fine
+      pub verdict_back : (count size : ℕ) → length points ≤ count → length w ≤ size → read_verdict slip count size ≡ Fine
       unfolding head
-      verdict-back count size a b =
-          let searched : Searched slip head 0 (firstTwice points) =
-          record { fine = head-back; heads = heads-back; loose-is = omega (arith, spare-back, fill-back); twice-is = rw points-back } in
-          sym (read-fine slip count size head 0 _ searched (omega arith) points-once a (omega (arith, n)))
+      verdict_back count size a b =
+          let searched : Searched slip head 0 (first_twice points) =
+          record { fine = head_back; heads = heads_back; loose_is = omega (arith, spare_back, fill_back); twice_is = rw points_back } in
+          sym (read_fine slip count size head 0 _ searched (omega arith) points_once a (omega (arith, n)))
 
       -- a slip is read as what it was made of
-      pub slip-read-back : (points₀ row₀ : List ℕ) → length points ≤ length points₀ → length w ≤ length row₀
+      pub slip_read_back : (points₀ row₀ : List ℕ) → length points ≤ length points₀ → length w ≤ length row₀
           → (s : SlipRead) (points₁ row₁ : List ℕ) → Read slip points₀ row₀ s points₁ row₁
           → (s ≡ record { answer = Done 0; edition = edition; m = m; r = r; count = length points; k = k }) × (points₁ ≡ front points points₀) × (row₁ ≡ front w row₀)
       unfolding head kept
-      slip-read-back points₀ row₀ a b s points₁ row₁ t =
-          let v = verdict-back (length points₀) (length row₀) a b in (
-            rw v at (t .answers) ∙ sym (reading-done slip head heads-back),
-            rw (v, points-back) at (t .leaves-points),
-            rw (v, row-back) at (t .leaves-row),
+      slip_read_back points₀ row₀ a b s points₁ row₁ t =
+          let v = verdict_back (length points₀) (length row₀) a b in (
+            rw v at t.answers ∙ sym (reading_done slip head heads_back),
+            rw (v, points_back) at t.leaves_points,
+            rw (v, row_back) at t.leaves_row,
           )
 
 -- what a writer that is done has written
-module _ (edition m r k d : ℕ) (points w bytes bytes′ : List ℕ) (t : Written edition m r k points w bytes (Done d) bytes′) where
+module _ (edition m r k d : ℕ) (points w bytes bytes' : List ℕ) (t : Written edition m r k points w bytes (Done d) bytes') where
   taken : Writable edition m r k points w (length bytes)
-  taken = writable edition m r k points w (length bytes) (answer-done _ _ d (sym (t .answers)))
+  taken = writable edition m r k points w (length bytes) (answer_done _ _ d (sym t.answers))
 
-  pub wrote : take d bytes′ ≡ slipOf (layoutOf edition) m r k points w
+  pub wrote : take d bytes' ≡ slip_of (layout_of edition) m r k points w
   unfolding answer kept
   wrote =
-      let v = answer-done (writeVerdict edition m r k points w (length bytes)) _ d (sym (t .answers)) in
-      let s = slipOf (layoutOf edition) m r k points w in
-      let a : Done d ≡ Done (slipSize (layoutOf edition) m (length points + length w)) = rw v at (t .answers) in
-      let e : length s ≡ d = length-slip (layoutOf edition) m r k points w ∙ cc in
-      let b : bytes′ ≡ front s bytes = rw v at (t .leaves) in
-      ap (take d) b ∙ take-front s bytes d e
+      let v = answer_done (write_verdict edition m r k points w (length bytes)) _ d (sym t.answers) in
+      let s = slip_of (layout_of edition) m r k points w in
+      let a : Done d ≡ Done (slip_size (layout_of edition) m (length points + length w)) = rw v at t.answers in
+      let e : length s ≡ d = length_slip (layout_of edition) m r k points w ∙ cc in
+      let b : bytes' ≡ front s bytes = rw v at t.leaves in
+      ap (take d) b ∙ take_front s bytes d e
 
   -- it is a slip of that edition, by its header and its size
-  pub written-edition : editionIn (take d bytes′) ≡ edition
-  written-edition = rw wrote (edition-back edition (taken .known) m r k points w (taken .within) (taken .symbols))
+  pub written_edition : edition_in (take d bytes') ≡ edition
+  written_edition = rw wrote (edition_back edition taken.known m r k points w taken.within taken.symbols)
 
-  pub written-whole : headVerdict (take d bytes′) ≡ Fine
-  written-whole = rw wrote (head-back edition (taken .known) m r k points w (taken .within) (taken .symbols) (taken .row))
+  pub written_whole : head_verdict (take d bytes') ≡ Fine
+  written_whole = rw wrote (head_back edition taken.known m r k points w taken.within taken.symbols taken.row)
 
   -- WRITE, THEN READ: whatever the writer left, if it was done, and whatever the reader then answers, the edition, the code and the row are the same
-  pub round-trip : (points₀ row₀ : List ℕ) → length points ≤ length points₀ → length w ≤ length row₀
-      → (s : SlipRead) (points₁ row₁ : List ℕ) → Read (take d bytes′) points₀ row₀ s points₁ row₁
+  pub round_trip : (points₀ row₀ : List ℕ) → length points ≤ length points₀ → length w ≤ length row₀
+      → (s : SlipRead) (points₁ row₁ : List ℕ) → Read (take d bytes') points₀ row₀ s points₁ row₁
       → (s ≡ record { answer = Done 0; edition = edition; m = m; r = r; count = length points; k = k }) × (points₁ ≡ front points points₀) × (row₁ ≡ front w row₀)
-  round-trip points₀ row₀ a b s points₁ row₁ q =
-      slip-read-back edition (taken .known) m r k points w (taken .within) (taken .symbols) (taken .row) points₀ row₀ a b s points₁ row₁ (rw wrote at q)
+  round_trip points₀ row₀ a b s points₁ row₁ q =
+      slip_read_back edition taken.known m r k points w taken.within taken.symbols taken.row points₀ row₀ a b s points₁ row₁ (rw wrote at q)

@@ -1,90 +1,90 @@
 -- What the contracts of the two calls fix: one outcome each, no buffer changed by a refusal, a slip of at most 259 bytes in
 -- edition 1 and 484 in edition 2, and numbers that the reader never answers.
-use Prim.Native.Nat.{ℕ, _+_, _*_, _/_, _≤_}
+use Prim.Native.Nat.{ℕ, ◌+◌, ◌*◌, ◌/◌, ◌≤◌}
 use mathlib.Core.Bool.{true, false}
-use mathlib.Core.Path.{_≡_, refl, sym, _∙_}
+use mathlib.Core.Path.{◌≡◌, refl, sym, ◌∙◌}
 use mathlib.Core.List.{List}
-use native.Mathlib.Nat.{mul-le-mul, mul-le-mul-right}
+use native.Mathlib.Nat.{mul-le-mul, mul-le-mul_right}
 use native.Mathlib.Omega.{arith}
 use lib.ListN.{length}
-use Rattle·defs.specs.Refusal.{numberOf, number, answer}
-use Rattle·defs.specs.Slip.{layoutOf, headBits, slipSize, slipOf}
-use Rattle·defs.specs.Write.{writeVerdict, Written}
-use Rattle·defs.specs.Read.{readVerdict, reading, Read}
-use Rattle·defs.specs.declared.Refusal.{Refusal}
-use Rattle·defs.specs.declared.Verdict.{Verdict}
-use Rattle·defs.specs.declared.Verdict.the-variants.{Fine, Refused}
-use Rattle·defs.specs.declared.Answer.{Answer}
-use Rattle·defs.specs.declared.Answer.the-variants.{Refused as No}
-use Rattle·defs.specs.declared.SlipRead.{SlipRead}
-use Rattle·theory.proofs.Verdict.{apart, answer-refused, kept-refused, Every}
-use Rattle·theory.proofs.Limits.{numbers-top}
-use Rattle·theory.proofs.Width.{width-top}
-use Rattle·slip.proofs.Answered.{answered}
-use Rattle·slip.proofs.Layouts.{laid}
-use Rattle·slip.proofs.Writer.{within-limits, within-numbers, writable}
-use Rattle·line.proofs.Slips.{readers, read-every}
-use Rattle·promises·proofs.proofs.RoundTrip.{length-slip}
+use Rattle.defs.specs.Refusal.{number_of, number, answer}
+use Rattle.defs.specs.Slip.{layout_of, head_bits, slip_size, slip_of}
+use Rattle.defs.specs.Write.{write_verdict, Written}
+use Rattle.defs.specs.Read.{read_verdict, reading, Read}
+use Rattle.defs.specs.declared.Refusal.{Refusal}
+use Rattle.defs.specs.declared.Verdict.{Verdict}
+use Rattle.defs.specs.declared.Verdict.TheVariants.{Fine, Refused}
+use Rattle.defs.specs.declared.Answer.{Answer}
+use Rattle.defs.specs.declared.Answer.TheVariants.{Refused as No}
+use Rattle.defs.specs.declared.SlipRead.{SlipRead}
+use Rattle.theory.proofs.Verdict.{apart, answer_refused, kept_refused, Every}
+use Rattle.theory.proofs.Limits.{numbers_top}
+use Rattle.theory.proofs.Width.{width_top}
+use Rattle.slip.proofs.Answered.{answered}
+use Rattle.slip.proofs.Layouts.{laid}
+use Rattle.slip.proofs.Writer.{within_limits, within_numbers, writable}
+use Rattle.line.proofs.Slips.{readers, read_every}
+use Rattle.promises.proofs.RoundTrip.{length_slip}
 
 -- ---- two allowed outcomes are equal
 
-pub written-same : {edition m r k : ℕ} {points w bytes : List ℕ} {a b : Answer} {s t : List ℕ}
+pub written_same : {edition m r k : ℕ} {points w bytes : List ℕ} {a b : Answer} {s t : List ℕ}
     → Written edition m r k points w bytes a s → Written edition m r k points w bytes b t → (a ≡ b) × (s ≡ t)
-written-same x y = (cc (x .answers, y .answers), cc (x .leaves, y .leaves))
+written_same x y = (cc (x.answers, y.answers), cc (x.leaves, y.leaves))
 
-pub read-same : {bytes points row : List ℕ} {a b : SlipRead} {s t u v : List ℕ}
+pub read_same : {bytes points row : List ℕ} {a b : SlipRead} {s t u v : List ℕ}
     → Read bytes points row a s t → Read bytes points row b u v → (a ≡ b) × (s ≡ u) × (t ≡ v)
-read-same x y = (cc (x .answers, y .answers), cc (x .leaves-points, y .leaves-points), cc (x .leaves-row, y .leaves-row))
+read_same x y = (cc (x.answers, y.answers), cc (x.leaves_points, y.leaves_points), cc (x.leaves_row, y.leaves_row))
 
 -- ---- a refusal changes no buffer
 
-pub write-refused : {edition m r k : ℕ} {points w bytes : List ℕ} {x : Refusal} {bytes′ : List ℕ} → Written edition m r k points w bytes (No x) bytes′ → bytes′ ≡ bytes
-write-refused t = t .leaves ∙ kept-refused _ _ _ _ _ (sym (t .answers))
+pub write_refused : {edition m r k : ℕ} {points w bytes : List ℕ} {x : Refusal} {bytes' : List ℕ} → Written edition m r k points w bytes (No x) bytes' → bytes' ≡ bytes
+write_refused t = t.leaves ∙ kept_refused _ _ _ _ _ (sym t.answers)
 
 -- where it is refused the edition and the four numbers are 0
-pub read-refused : {bytes points row : List ℕ} {s : SlipRead} {x : Refusal} {points′ row′ : List ℕ} → Read bytes points row s points′ row′ → s .answer ≡ No x
-    → (s ≡ record { answer = No x; edition = 0; m = 0; r = 0; count = 0; k = 0 }) × (points′ ≡ points) × (row′ ≡ row)
+pub read_refused : {bytes points row : List ℕ} {s : SlipRead} {x : Refusal} {points' row' : List ℕ} → Read bytes points row s points' row' → s.answer ≡ No x
+    → (s ≡ record { answer = No x; edition = 0; m = 0; r = 0; count = 0; k = 0 }) × (points' ≡ points) × (row' ≡ row)
 unfolding reading
-read-refused {bytes} {points} {row} {s} {x} t e =
-    let v = readVerdict bytes (length points) (length row) in
+read_refused {bytes} {points} {row} {s} {x} t e =
+    let v = read_verdict bytes (length points) (length row) in
     let a : answer v 0 ≡ No x = sym (answered t) ∙ e in
-    (t .answers ∙ rw (answer-refused v 0 x a), t .leaves-points ∙ kept-refused v 0 x _ _ a, t .leaves-row ∙ kept-refused v 0 x _ _ a)
+    (t.answers ∙ rw (answer_refused v 0 x a), t.leaves_points ∙ kept_refused v 0 x _ _ a, t.leaves_row ∙ kept_refused v 0 x _ _ a)
 
 -- ---- the size of a slip
 
 module _ (m r k : ℕ) (points w : List ℕ) (size : ℕ) where
   -- the header, and a byte for each symbol of the longest row and for as many points
-  pub slip-top : (edition : ℕ) → writeVerdict edition m r k points w size ≡ Fine
-      → length (slipOf (layoutOf edition) m r k points w) ≤ headBits (layoutOf edition) / 8 + 2 * layoutOf edition .top
-  unfolding slipSize
-  slip-top edition e =
-      let L = layoutOf edition in
+  pub slip_top : (edition : ℕ) → write_verdict edition m r k points w size ≡ Fine
+      → length (slip_of (layout_of edition) m r k points w) ≤ head_bits (layout_of edition) / 8 + 2 * (layout_of edition).top
+  unfolding slip_size
+  slip_top edition e =
+      let L = layout_of edition in
       let x = writable edition m r k points w size e in
-      let n = within-limits L (laid edition) m r k points (x .within) .numbers in
-      let top = numbers-top (L .top) m r k (length points) (laid edition .top-low) (within-numbers L (laid edition) m r k points (x .within)) in
-      let few : length points + length w ≤ 2 * L .top = omega (arith, x .row, top, mul-le-mul-right (length points) (n .r-pos)) in
-      rw length-slip (omega (arith, mul-le-mul {n₁ = length points + length w} {m₁ = m} {n₂ = 2 * L .top} {m₂ = 8} few (width-top m (n .width))))
+      let n = (within_limits L (laid edition) m r k points x.within).numbers in
+      let top = numbers_top L.top m r k (length points) (laid edition).top_low (within_numbers L (laid edition) m r k points x.within) in
+      let few : length points + length w ≤ 2 * L.top = omega (arith, x.row, top, mul-le-mul_right (length points) n.r_pos) in
+      rw length_slip (omega (arith, mul-le-mul {n₁ = length points + length w} {m₁ = m} {n₂ = 2 * L.top} {m₂ = 8} few (width_top m n.width)))
 
   -- so at most 484 bytes, and in edition 1 at most 259
-  pub slip-longest : (edition : ℕ) → writeVerdict edition m r k points w size ≡ Fine → length (slipOf (layoutOf edition) m r k points w) ≤ 484
-  slip-longest edition e = omega (arith, slip-top edition e, laid edition .bytes-top, laid edition .top-low)
+  pub slip_longest : (edition : ℕ) → write_verdict edition m r k points w size ≡ Fine → length (slip_of (layout_of edition) m r k points w) ≤ 484
+  slip_longest edition e = omega (arith, slip_top edition e, (laid edition).bytes_top, (laid edition).top_low)
 
-  pub slip-old : writeVerdict 1 m r k points w size ≡ Fine → length (slipOf (layoutOf 1) m r k points w) ≤ 259
-  unfolding layoutOf headBits
-  slip-old e = slip-top 1 e
+  pub slip_old : write_verdict 1 m r k points w size ≡ Fine → length (slip_of (layout_of 1) m r k points w) ≤ 259
+  unfolding layout_of head_bits
+  slip_old e = slip_top 1 e
 
 -- ---- the reader never answers 2, 5 or 8
 
-number-reads : (v : Verdict) → Every (λ x. readers (numberOf x) ≡ true) v → readers (number (answer v 0)) ≡ true
+number_reads : (v : Verdict) → Every (λ x. readers (number_of x) ≡ true) v → readers (number (answer v 0)) ≡ true
 unfolding answer
-number-reads Fine h = refl
-number-reads (Refused x) h = h .of x refl
+number_reads Fine h = refl
+number_reads (Refused x) h = h.of x refl
 
 other : (n k : ℕ) → readers n ≡ true → readers k ≡ false → n ≡ k → ⊥
 other n k a b e = apart cc
 
-pub reader-never : {bytes points row : List ℕ} {s : SlipRead} {points′ row′ : List ℕ} → Read bytes points row s points′ row′
-    → (number (s .answer) ≡ 2 → ⊥) × (number (s .answer) ≡ 5 → ⊥) × (number (s .answer) ≡ 8 → ⊥)
-reader-never {bytes} {points} {row} {s} t =
-    let p : readers (number (s .answer)) ≡ true = rw (answered t) (number-reads _ (read-every (λ x r l. r) bytes (length points) (length row))) in
+pub reader_never : {bytes points row : List ℕ} {s : SlipRead} {points' row' : List ℕ} → Read bytes points row s points' row'
+    → (number s.answer ≡ 2 → ⊥) × (number s.answer ≡ 5 → ⊥) × (number s.answer ≡ 8 → ⊥)
+reader_never {bytes} {points} {row} {s} t =
+    let p : readers (number s.answer) ≡ true = rw (answered t) (number_reads _ (read_every (λ x r l. r) bytes (length points) (length row))) in
     (other _ 2 p refl, other _ 5 p refl, other _ 8 p refl)

@@ -1,12 +1,14 @@
 // The quotient of two polynomials, where there is an exact one: long division from the top.
-ghost use mathlib.Core.Path.{_≡_};
-ghost use lib.ListN.{length};
-ghost use Rattle·quotient·specs.specs.Quotient.{Terms, Fits, TakenOff, Divisible, Divided, Dividing, Quotient};
+#![tactic(auto)]
+
+ghost use Rattle.std.specs.Prelude.{◌≡◌, length};
+ghost use Rattle.quotient.specs.Quotient.{Terms, Fits, TakenOff, Divisible, Divided, Dividing, Quotient};
+
 use defs::LONGEST;
 
 // How many coefficients of q there are up to the highest that is not zero.
 fn terms(q: &[u8]) -> usize
-    ensures { λ c. ⌜ Terms (now (q .entry)) c ⌝ }
+    ensures { Terms q.now result }
 {
     let mut c = q.len();
     while 0 < c {
@@ -20,8 +22,8 @@ fn terms(q: &[u8]) -> usize
 
 // Takes a multiple of the first c coefficients of q off rem, at places up; products has the multiples.
 fn take_off(products: &[u8; 256], q: &[u8], c: usize, at: usize, rem: &mut [u8])
-    requires { ⌜ (length (now products) ≡ 256) × Fits (now q) c at (now rem) ⌝ }
-    ensures { λ _. ⌜ TakenOff (now (products .entry)) (now (q .entry)) c at (now (rem .entry)) (now (rem .exit)) ⌝ }
+    requires { (length products.now ≡ 256) × Fits q.now c at rem.old }
+    ensures { TakenOff products.now q.now c at rem.old rem.new }
 {
     let mut i = 0;
     while i < c {
@@ -32,8 +34,8 @@ fn take_off(products: &[u8; 256], q: &[u8], c: usize, at: usize, rem: &mut [u8])
 
 // The coefficient at places up of the quotient by q, which is taken off rem; v is the inverse of q's highest coefficient.
 fn divide_at(m: usize, v: u8, q: &[u8], c: usize, at: usize, rem: &mut [u8]) -> u8
-    requires { ⌜ Divisible m v (now q) c at (now rem) ⌝ }
-    ensures { λ a. ⌜ Divided m v (now (q .entry)) c at (now (rem .entry)) a (now (rem .exit)) ⌝ }
+    requires { Divisible m v q.now c at rem.old }
+    ensures { Divided m v q.now c at rem.old result rem.new }
 {
     let a = field::mul(m, rem[at + (c - 1)], v);
     let products = field::product_row(m, a);
@@ -43,8 +45,8 @@ fn divide_at(m: usize, v: u8, q: &[u8], c: usize, at: usize, rem: &mut [u8]) -> 
 
 // The quotient of k coefficients, from the top down.
 pub fn quotient(m: usize, k: usize, q0: &[u8], q1: &[u8]) -> [u8; LONGEST]
-    requires { ⌜ Dividing m k (now q0) (now q1) ⌝ }
-    ensures { λ f. ⌜ Quotient m k (now (q0 .entry)) (now (q1 .entry)) f ⌝ }
+    requires { Dividing m k q0.now q1.now }
+    ensures { Quotient m k q0.now q1.now result }
 {
     let mut f = [0u8; LONGEST];
     let c = terms(q1);

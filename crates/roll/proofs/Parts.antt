@@ -1,30 +1,30 @@
 -- The two parts of a roll: what they are where a slip was found and where none was, and that they are the roll cut in two.
-use Prim.Native.Nat.{ℕ, _≤_}
-use mathlib.Core.Path.{_≡_, refl, ap, sym, _∙_}
-use mathlib.Core.List.{List, [], _∷_, _++_}
+use Prim.Native.Nat.{ℕ, ◌≤◌}
+use mathlib.Core.Path.{◌≡◌, refl, ap, sym, ◌∙◌}
+use mathlib.Core.List.{List, [], ◌∷◌, ◌++◌}
 use native.Mathlib.Omega.{arith}
 use lib.ListN.{length, take, drop, length-append, take-append-drop}
-use lib.Seq.{length-take-le, take-nil, take-append-seam, drop-append-seam}
-use Rattle·defs.specs.Refusal.{kept}
-use Rattle·defs.specs.Slip.{longestSlip, sizeIn}
-use Rattle·defs.specs.Read.{firstVerdict}
-use Rattle·defs.specs.Roll.{rollVerdict, firstPart, restPart}
-use Rattle·defs.specs.declared.Refusal.{Refusal}
-use Rattle·defs.specs.declared.Verdict.{Verdict}
-use Rattle·defs.specs.declared.Verdict.the-variants.{Fine, Refused}
-use Rattle·slip.proofs.Reader.{header-top, begins}
+use lib.Seq.{length-take-le, take-nil, take-append_seam, drop-append_seam}
+use Rattle.defs.specs.Refusal.{kept}
+use Rattle.defs.specs.Slip.{longest_slip, size_in}
+use Rattle.defs.specs.Read.{first_verdict}
+use Rattle.defs.specs.Roll.{roll_verdict, first_part, rest_part}
+use Rattle.defs.specs.declared.Refusal.{Refusal}
+use Rattle.defs.specs.declared.Verdict.{Verdict}
+use Rattle.defs.specs.declared.Verdict.TheVariants.{Fine, Refused}
+use Rattle.slip.proofs.Reader.{header_top, begins}
 
 -- ---- the verdict
 
-pub empty-fine : (roll : List ℕ) → length roll ≡ 0 → Fine ≡ rollVerdict roll
-unfolding rollVerdict
-empty-fine [] e = refl
-empty-fine (b ∷ s) e = absurd (omega arith)
+pub empty_fine : (roll : List ℕ) → length roll ≡ 0 → Fine ≡ roll_verdict roll
+unfolding roll_verdict
+empty_fine [] e = refl
+empty_fine (b ∷ s) e = absurd (omega arith)
 
-pub others-first : (roll : List ℕ) → (length roll ≡ 0 → ⊥) → firstVerdict roll ≡ rollVerdict roll
-unfolding rollVerdict
-others-first [] n = absurd (n refl)
-others-first (b ∷ s) n = refl
+pub others_first : (roll : List ℕ) → (length roll ≡ 0 → ⊥) → first_verdict roll ≡ roll_verdict roll
+unfolding roll_verdict
+others_first [] n = absurd (n refl)
+others_first (b ∷ s) n = refl
 
 -- ---- the parts
 
@@ -34,41 +34,41 @@ unfolding kept
 cut Fine n s = take-append-drop n s
 cut (Refused x) n s = refl
 
-pub none-found : (roll : List ℕ) (x : Refusal) → firstVerdict roll ≡ Refused x → firstPart roll ≡ []
-unfolding firstPart kept rollVerdict
-none-found [] x e = take-nil (sizeIn [])
-none-found (b ∷ s) x e = rw e
+pub none_found : (roll : List ℕ) (x : Refusal) → first_verdict roll ≡ Refused x → first_part roll ≡ []
+unfolding first_part kept roll_verdict
+none_found [] x e = take-nil (size_in [])
+none_found (b ∷ s) x e = rw e
 
 module _ (roll : List ℕ) where
-  pub parts-join : firstPart roll ++ restPart roll ≡ roll
-  unfolding firstPart restPart
-  parts-join = cut (rollVerdict roll) (sizeIn roll) roll
+  pub parts_join : first_part roll ++ rest_part roll ≡ roll
+  unfolding first_part rest_part
+  parts_join = cut (roll_verdict roll) (size_in roll) roll
 
-  pub first-within : length (firstPart roll) ≤ length roll
-  first-within = omega (arith, length-append (firstPart roll) (restPart roll), ap length parts-join)
+  pub first_within : length (first_part roll) ≤ length roll
+  first_within = omega (arith, length-append (first_part roll) (rest_part roll), ap length parts_join)
 
-  pub first-taken : take (length (firstPart roll)) roll ≡ firstPart roll
-  first-taken = ap (take (length (firstPart roll))) (sym parts-join) ∙ take-append-seam (firstPart roll) (restPart roll)
+  pub first_taken : take (length (first_part roll)) roll ≡ first_part roll
+  first_taken = ap (take (length (first_part roll))) (sym parts_join) ∙ take-append_seam (first_part roll) (rest_part roll)
 
-  pub rest-left : drop (length (firstPart roll)) roll ≡ restPart roll
-  rest-left = ap (drop (length (firstPart roll))) (sym parts-join) ∙ drop-append-seam (firstPart roll) (restPart roll)
+  pub rest_left : drop (length (first_part roll)) roll ≡ rest_part roll
+  rest_left = ap (drop (length (first_part roll))) (sym parts_join) ∙ drop-append_seam (first_part roll) (rest_part roll)
 
   -- where the roll begins with a slip
-  module _ (e : firstVerdict roll ≡ Fine) where
-    pub roll-fine : rollVerdict roll ≡ Fine
-    roll-fine = sym (others-first roll (λ z. omega (arith, begins roll e .long))) ∙ e
+  module _ (e : first_verdict roll ≡ Fine) where
+    pub roll_fine : roll_verdict roll ≡ Fine
+    roll_fine = sym (others_first roll (λ z. omega (arith, (begins roll e).long))) ∙ e
 
-    pub first-found : firstPart roll ≡ take (sizeIn roll) roll
-    unfolding firstPart kept
-    first-found = rw roll-fine
+    pub first_found : first_part roll ≡ take (size_in roll) roll
+    unfolding first_part kept
+    first_found = rw roll_fine
 
-    pub first-long : length (firstPart roll) ≡ sizeIn roll
-    first-long = rw first-found (length-take-le (sizeIn roll) roll (begins roll e .size))
+    pub first_long : length (first_part roll) ≡ size_in roll
+    first_long = rw first_found (length-take-le (size_in roll) roll (begins roll e).size)
 
 -- a first part is no longer than the longest slip
-pub first-top : (roll : List ℕ) → length (firstPart roll) ≤ longestSlip
-first-top roll = go (firstVerdict roll) refl
+pub first_top : (roll : List ℕ) → length (first_part roll) ≤ longest_slip
+first_top roll = go (first_verdict roll) refl
   where
-    go : (v : Verdict) → firstVerdict roll ≡ v → length (firstPart roll) ≤ longestSlip
-    go Fine e = omega (arith, first-long roll e, header-top roll (begins roll e .fine))
-    go (Refused x) e = omega (arith, ap length (none-found roll x e))
+    go : (v : Verdict) → first_verdict roll ≡ v → length (first_part roll) ≤ longest_slip
+    go Fine e = omega (arith, first_long roll e, header_top roll (begins roll e).fine)
+    go (Refused x) e = omega (arith, ap length (none_found roll x e))

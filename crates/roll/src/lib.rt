@@ -1,14 +1,15 @@
 // A roll, slips one behind another: its first slip, and what stands behind it.
-ghost use mathlib.Core.Path.{_≡_};
-ghost use lib.ListN.{length};
-ghost use Rattle·defs.specs.Refusal.{answer};
-ghost use Rattle·defs.specs.Roll.{rollVerdict, firstPart, restPart};
-use defs::Answer;
-use defs::Verdict;
+#![tactic(auto)]
+
+ghost use Rattle.std.specs.Prelude.{◌≡◌, length};
+ghost use Rattle.defs.specs.Refusal.{answer};
+ghost use Rattle.defs.specs.Roll.{roll_verdict, first_part, rest_part};
+
+use defs::{Answer, Verdict};
 
 // Nothing for an empty roll, and the checks of header and size for another.
 fn check_roll(roll: &[u8]) -> Verdict
-    ensures { λ v. ⌜ v ≡ rollVerdict (now (roll .entry)) ⌝ }
+    ensures { result ≡ roll_verdict roll.now }
 {
     if roll.len() == 0 {
         return Verdict::Fine;
@@ -18,7 +19,7 @@ fn check_roll(roll: &[u8]) -> Verdict
 
 // The bytes of the first slip, and 0 for an empty roll and on a refusal.
 pub fn first_size(roll: &[u8]) -> usize
-    ensures { λ n. ⌜ n ≡ length (firstPart (now (roll .entry))) ⌝ }
+    ensures { result ≡ length (first_part roll.now) }
 {
     let v = slip::check_first(roll);
     if let Verdict::Refused(_) = v {
@@ -29,7 +30,7 @@ pub fn first_size(roll: &[u8]) -> usize
 
 // Whether a roll begins with a slip. Done with 0, also for an empty roll.
 pub fn roll_answer(roll: &[u8]) -> Answer
-    ensures { λ a. ⌜ a ≡ answer (rollVerdict (now (roll .entry))) 0 ⌝ }
+    ensures { result ≡ answer (roll_verdict roll.now) 0 }
 {
     let v = check_roll(roll);
     if let Verdict::Refused(x) = v {
@@ -40,7 +41,7 @@ pub fn roll_answer(roll: &[u8]) -> Answer
 
 // The first slip of a roll. Empty for an empty roll and on a refusal.
 pub fn roll_first(roll: &[u8]) -> &[u8]
-    ensures { λ s. ⌜ now s ≡ firstPart (now (roll .entry)) ⌝ }
+    ensures { result.now ≡ first_part roll.now }
 {
     let n = first_size(roll);
     &roll[..n]
@@ -48,7 +49,7 @@ pub fn roll_first(roll: &[u8]) -> &[u8]
 
 // What stands behind the first slip of a roll. On a refusal the whole roll.
 pub fn roll_rest(roll: &[u8]) -> &[u8]
-    ensures { λ s. ⌜ now s ≡ restPart (now (roll .entry)) ⌝ }
+    ensures { result.now ≡ rest_part roll.now }
 {
     let n = first_size(roll);
     &roll[n..]

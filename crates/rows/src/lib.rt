@@ -1,25 +1,21 @@
 // Chunks, handed about whole; the rows that are made of them; the calls encode and distance.
-ghost use mathlib.Core.Path.{_≡_};
-ghost use Prim.Native.Nat.{_+_, _*_, _^_, _<_, _≤_};
-ghost use lib.ListN.{length, getD};
-ghost use Rattle·defs.specs.Field.{Width};
-ghost use Rattle·defs.specs.Place.{Symbols};
-ghost use Rattle·defs.specs.Row.{coefficient, rowOf};
-ghost use Rattle·defs.specs.Distance.{agree, damage, distance};
-ghost use Rattle·defs.specs.Limits.{deepest, longest};
-ghost use Rattle·defs.specs.Encode.{Encoded, distanceVerdict, distanceAnswer};
-ghost use Rattle·theory.specs.Fill.{filled};
-ghost use Rattle·field.specs.Arithmetic.{Logarithm};
-ghost use Rattle·code.specs.Checked.{pointsOf};
-ghost use Rattle·rows·specs.specs.Tables.{PowersOf, LogsFor, LogsOf, ProductLog, ExponentsOf};
-ghost use Rattle·code.specs.Chunk.{chunkOf};
-ghost use Rattle·rows·specs.specs.Chunk.{Terms, Evaluable, Writable, Chunks, Rows};
-use defs::Answer;
-use defs::Code;
-use defs::DEEPEST;
-use defs::LONGEST;
-use defs::Refusal;
-use defs::Verdict;
+#![tactic(auto)]
+
+ghost use Rattle.std.specs.Prelude.{◌≡◌, ◌+◌, ◌*◌, ◌^◌, ◌<◌, ◌≤◌, length, get_or};
+ghost use Rattle.defs.specs.Field.{Width};
+ghost use Rattle.defs.specs.Place.{Symbols};
+ghost use Rattle.defs.specs.Row.{coefficient, row_of};
+ghost use Rattle.defs.specs.Distance.{agree, damage, distance};
+ghost use Rattle.defs.specs.Limits.{deepest, longest};
+ghost use Rattle.defs.specs.Encode.{Encoded, distance_verdict, distance_answer};
+ghost use Rattle.theory.specs.Fill.{filled};
+ghost use Rattle.field.specs.Arithmetic.{Logarithm};
+ghost use Rattle.code.specs.Checked.{points_of};
+ghost use Rattle.rows.specs.Tables.{PowersOf, LogsFor, LogsOf, ProductLog, ExponentsOf};
+ghost use Rattle.code.specs.Chunk.{chunk_of};
+ghost use Rattle.rows.specs.Chunk.{Terms, Evaluable, Writable, Chunks, Rows};
+
+use defs::{Answer, Code, DEEPEST, LONGEST, Refusal, Verdict};
 use field::POWERS;
 
 // The logarithm of 0: it leads past the powers of every field, twice round, to where zeros stand.
@@ -30,8 +26,8 @@ const PLACES: usize = NOWHERE + 256;
 
 // The powers of 2, twice round, with zeros behind them: a constant table would be built again at each look-up.
 fn powers(m: usize) -> [u8; PLACES]
-    requires { ⌜ Width m ⌝ }
-    ensures { λ t. ⌜ PowersOf m t ⌝ }
+    requires { Width m }
+    ensures { PowersOf m result }
 {
     let n = 2 * (field::field_size(m) - 1);
     let mut table = [0u8; PLACES];
@@ -47,9 +43,9 @@ fn powers(m: usize) -> [u8; PLACES]
 
 // The logarithm of each symbol.
 fn logs(m: usize, powers: &[u8; PLACES]) -> [usize; 256]
-    requires { ⌜ Width m ⌝ }
-    requires { ⌜ PowersOf m (now powers) ⌝ }
-    ensures { λ t. ⌜ LogsFor m t ⌝ }
+    requires width { Width m }
+    requires powers_of { PowersOf m powers.now }
+    ensures { LogsFor m result }
 {
     let order = field::field_size(m) - 1;
     let mut table = [NOWHERE; 256];
@@ -63,9 +59,9 @@ fn logs(m: usize, powers: &[u8; PLACES]) -> [usize; 256]
 
 // The logarithms of a message's symbols.
 fn message_logs(m: usize, message: &[u8], logs: &[usize; 256]) -> [usize; LONGEST]
-    requires { ⌜ Symbols m (now message) × (length (now message) ≤ longest) ⌝ }
-    requires { ⌜ LogsFor m (now logs) ⌝ }
-    ensures { λ t. ⌜ LogsOf m (now (message .entry)) t ⌝ }
+    requires symbols { Symbols m message.now × (length message.now ≤ longest) }
+    requires logs_for { LogsFor m logs.now }
+    ensures { LogsOf m message.now result }
 {
     let mut table = [0usize; LONGEST];
     let mut i = 0;
@@ -78,9 +74,9 @@ fn message_logs(m: usize, message: &[u8], logs: &[usize; 256]) -> [usize; LONGES
 
 // A logarithm of the product of the powers a and b of 2. The order of 2 is one less than size, so size counts for 1, and no branch is needed.
 fn product_log(m: usize, a: usize, b: usize) -> usize
-    requires { ⌜ Width m ⌝ }
-    requires { ⌜ (a < 2 ^ m) × (b < 2 ^ m) ⌝ }
-    ensures { λ l. ⌜ ProductLog m a b l ⌝ }
+    requires width { Width m }
+    requires a_bound { (a < 2 ^ m) × (b < 2 ^ m) }
+    ensures { ProductLog m a b result }
 {
     let size = field::field_size(m);
     let sum = a + b;
@@ -98,11 +94,11 @@ fn first_coefficient(
     powers: &[u8; PLACES],
     exponents: &mut [usize; LONGEST],
 ) -> u8
-    requires { ⌜ Terms m (now message) (now symbols) (now powers) ⌝ }
-    requires { ⌜ Logarithm m point step ⌝ }
-    requires { ⌜ length (now exponents) ≡ longest ⌝ }
-    ensures { λ c. ⌜ c ≡ coefficient m (now (message .entry)) point 0 ⌝ }
-    ensures { λ _. ⌜ ExponentsOf m point (length (now (message .entry))) (now (exponents .exit)) ⌝ }
+    requires terms { Terms m message.now symbols.now powers.now }
+    requires logarithm { Logarithm m point step }
+    requires exponents_len { length exponents.old ≡ longest }
+    ensures value { result ≡ coefficient m message.now point 0 }
+    ensures exponents_of { ExponentsOf m point (length message.now) exponents.new }
 {
     let mut sum: u8 = 0;
     let mut e = 0;
@@ -126,9 +122,9 @@ fn coefficient(
     powers: &[u8; PLACES],
     exponents: &[usize; LONGEST],
 ) -> u8
-    requires { ⌜ Terms m (now message) (now symbols) (now powers) ⌝ }
-    requires { ⌜ ExponentsOf m point (length (now message)) (now exponents) ⌝ }
-    ensures { λ c. ⌜ c ≡ coefficient m (now (message .entry)) point j ⌝ }
+    requires terms { Terms m message.now symbols.now powers.now }
+    requires exponents_of { ExponentsOf m point (length message.now) exponents.now }
+    ensures { result ≡ coefficient m message.now point j }
 {
     let k = message.len();
     let mut sum: u8 = 0;
@@ -142,8 +138,8 @@ fn coefficient(
 
 // The chunk of a message at 0: its first r symbols.
 fn at_zero(r: usize, message: &[u8]) -> [u8; DEEPEST]
-    requires { ⌜ r ≤ deepest ⌝ }
-    ensures { λ a. ⌜ a ≡ chunkOf r (λ j. getD (now (message .entry)) j 0) ⌝ }
+    requires { r ≤ deepest }
+    ensures { result ≡ chunk_of r (λ j. get_or message.now j 0) }
 {
     if message.len() < r {
         return code::chunk_of(message, 0, message.len());
@@ -162,10 +158,10 @@ pub fn evaluate(
     powers: &[u8; PLACES],
     exponents: &mut [usize; LONGEST],
 ) -> [u8; DEEPEST]
-    requires { ⌜ Evaluable m r point (now message) (now symbols) (now logs) (now powers) ⌝ }
-    requires { ⌜ length (now exponents) ≡ longest ⌝ }
-    ensures { λ a. ⌜ a ≡ chunkOf r (coefficient m (now (message .entry)) point) ⌝ }
-    ensures { λ _. ⌜ length (now (exponents .exit)) ≡ longest ⌝ }
+    requires evaluable { Evaluable m r point message.now symbols.now logs.now powers.now }
+    requires exponents_len { length exponents.old ≡ longest }
+    ensures value { result ≡ chunk_of r (coefficient m message.now point) }
+    ensures exponents_len_2 { length exponents.new ≡ longest }
 {
     if point == 0 {
         return at_zero(r, message);
@@ -183,8 +179,8 @@ pub fn evaluate(
 
 // The depth to which two chunks agree: s stays behind at the first symbol that differs.
 pub fn agree(a: [u8; DEEPEST], b: [u8; DEEPEST], r: usize) -> usize
-    requires { ⌜ r ≤ deepest ⌝ }
-    ensures { λ s. ⌜ s ≡ agree r (λ j. getD a j 0) (λ j. getD b j 0) ⌝ }
+    requires { r ≤ deepest }
+    ensures { result ≡ agree r (λ j. get_or a j 0) (λ j. get_or b j 0) }
 {
     let mut s = 0;
     let mut j = 0;
@@ -201,8 +197,8 @@ pub fn agree(a: [u8; DEEPEST], b: [u8; DEEPEST], r: usize) -> usize
 
 // Writes a chunk into a row.
 pub fn store(row: &mut [u8], at: usize, r: usize, chunk: [u8; DEEPEST])
-    requires { ⌜ (r ≤ deepest) × (at + r ≤ length (now row)) ⌝ }
-    ensures { λ _. ⌜ now (row .exit) ≡ filled (now (row .entry)) at (λ j. getD chunk j 0) r ⌝ }
+    requires { (r ≤ deepest) × (at + r ≤ length row.old) }
+    ensures { row.new ≡ filled row.old at (λ j. get_or chunk j 0) r }
 {
     let mut j = 0;
     while j < r {
@@ -213,8 +209,8 @@ pub fn store(row: &mut [u8], at: usize, r: usize, chunk: [u8; DEEPEST])
 
 // Writes the row of a message. at is the chunk's index in the row.
 pub fn write_row(code: Code, message: &[u8], row: &mut [u8])
-    requires { ⌜ Writable code (now message) (now row) ⌝ }
-    ensures { λ _. ⌜ now (row .exit) ≡ rowOf (code .m) (code .r) (pointsOf code) (now (message .entry)) ⌝ }
+    requires { Writable code message.now row.old }
+    ensures { row.new ≡ row_of code.m code.r (points_of code) message.now }
 {
     let points = code.points;
     let m = code.m;
@@ -245,8 +241,8 @@ pub fn write_row(code: Code, message: &[u8], row: &mut [u8])
 
 // The depth of damage in chunk i of two rows.
 pub fn chunk_damage(r: usize, a: &[u8], b: &[u8], i: usize) -> usize
-    requires { ⌜ Chunks r (now a) (now b) i ⌝ }
-    ensures { λ d. ⌜ d ≡ damage r (now (a .entry)) (now (b .entry)) i ⌝ }
+    requires { Chunks r a.now b.now i }
+    ensures { result ≡ damage r a.now b.now i }
 {
     let at = i * r;
     let x = code::chunk_of(a, at, r);
@@ -256,8 +252,8 @@ pub fn chunk_damage(r: usize, a: &[u8], b: &[u8], i: usize) -> usize
 
 // The distance of two rows of count chunks.
 pub fn row_distance(r: usize, count: usize, a: &[u8], b: &[u8]) -> usize
-    requires { ⌜ Rows r count (now a) (now b) ⌝ }
-    ensures { λ d. ⌜ d ≡ distance r count (now (a .entry)) (now (b .entry)) ⌝ }
+    requires { Rows r count a.now b.now }
+    ensures { result ≡ distance r count a.now b.now }
 {
     let mut sum = 0;
     let mut i = 0;
@@ -270,7 +266,7 @@ pub fn row_distance(r: usize, count: usize, a: &[u8], b: &[u8]) -> usize
 
 // 2 and 7, on the lengths of two rows.
 pub fn check_lengths(r: usize, n: usize, other: usize) -> Verdict
-    ensures { λ v. ⌜ v ≡ distanceVerdict r n other ⌝ }
+    ensures { result ≡ distance_verdict r n other }
 {
     if r == 0 {
         return Verdict::Refused(Refusal::Depth);
@@ -295,7 +291,7 @@ pub fn check_lengths(r: usize, n: usize, other: usize) -> Verdict
 
 // The distance of two rows of any bytes.
 pub fn distance(r: usize, a: &[u8], b: &[u8]) -> Answer
-    ensures { λ d. ⌜ d ≡ distanceAnswer r (now (a .entry)) (now (b .entry)) ⌝ }
+    ensures { result ≡ distance_answer r a.now b.now }
 {
     let v = check_lengths(r, a.len(), b.len());
     if let Verdict::Refused(x) = v {
@@ -306,7 +302,7 @@ pub fn distance(r: usize, a: &[u8], b: &[u8]) -> Answer
 
 // Writes the row of a message, or refuses and leaves the buffer as it was.
 pub fn encode(m: usize, r: usize, k: usize, points: &[u8], message: &[u8], row: &mut [u8]) -> Answer
-    ensures { λ a. ⌜ Encoded m r k (now (points .entry)) (now (message .entry)) (now (row .entry)) a (now (row .exit)) ⌝ }
+    ensures { Encoded m r k points.now message.now row.old result row.new }
 {
     let checked = code::check_code(m, r, k, points);
     let v = checked.verdict;

@@ -1,67 +1,67 @@
 -- What the reader's answer says of the bytes, of the code's numbers and of the two buffers.
-use Prim.Native.Nat.{ℕ, _*_, _≤_}
-use mathlib.Core.Path.{_≡_, refl, ap, sym, _∙_}
+use Prim.Native.Nat.{ℕ, ◌*◌, ◌≤◌}
+use mathlib.Core.Path.{◌≡◌, refl, ap, sym, ◌∙◌}
 use mathlib.Core.List.{List}
 use native.Mathlib.Omega.{arith}
 use lib.ListN.{length, take, drop, length-append}
-use Rattle·defs.specs.Refusal.{answer, kept}
-use Rattle·defs.specs.Slip.{depthIn, countIn, pointsIn, rowIn}
-use Rattle·defs.specs.Write.{front}
-use Rattle·defs.specs.Read.{readVerdict, reading, Read}
-use Rattle·defs.specs.declared.Refusal.{Refusal}
-use Rattle·defs.specs.declared.Verdict.{Verdict}
-use Rattle·defs.specs.declared.Verdict.the-variants.{Fine, Refused}
-use Rattle·defs.specs.declared.Answer.the-variants.{Done, Refused as No}
-use Rattle·defs.specs.declared.SlipRead.{SlipRead}
-use Rattle·theory.proofs.Verdict.{answer-done, answer-refused}
-use Rattle·slip·proofs.proofs.Front.{take-front}
-use Rattle·slip·proofs.proofs.Taken.{length-points, length-row}
+use Rattle.defs.specs.Refusal.{answer, kept}
+use Rattle.defs.specs.Slip.{depth_in, count_in, points_in, row_in}
+use Rattle.defs.specs.Write.{front}
+use Rattle.defs.specs.Read.{read_verdict, reading, Read}
+use Rattle.defs.specs.declared.Refusal.{Refusal}
+use Rattle.defs.specs.declared.Verdict.{Verdict}
+use Rattle.defs.specs.declared.Verdict.TheVariants.{Fine, Refused}
+use Rattle.defs.specs.declared.Answer.TheVariants.{Done, Refused as No}
+use Rattle.defs.specs.declared.SlipRead.{SlipRead}
+use Rattle.theory.proofs.Verdict.{answer_done, answer_refused}
+use Rattle.slip.proofs.Front.{take_front}
+use Rattle.slip.proofs.Taken.{length_points, length_row}
 
 -- the reader's answer is that of its checks
-reading-answer : (v : Verdict) (bytes : List ℕ) → reading v bytes .answer ≡ answer v 0
+reading_answer : (v : Verdict) (bytes : List ℕ) → (reading v bytes).answer ≡ answer v 0
 unfolding reading answer
-reading-answer Fine bytes = refl
-reading-answer (Refused x) bytes = refl
+reading_answer Fine bytes = refl
+reading_answer (Refused x) bytes = refl
 
-length-front : (new old : List ℕ) → length new ≤ length (front new old)
+length_front : (new old : List ℕ) → length new ≤ length (front new old)
 unfolding front
-length-front new old = omega (arith, length-append new (drop (length new) old))
+length_front new old = omega (arith, length-append new (drop (length new) old))
 
-module _ {bytes points row : List ℕ} {s : SlipRead} {points′ row′ : List ℕ} (x : Read bytes points row s points′ row′) where
+module _ {bytes points row : List ℕ} {s : SlipRead} {points' row' : List ℕ} (x : Read bytes points row s points' row') where
   abbrev v : Verdict
-  v = readVerdict bytes (length points) (length row)
+  v = read_verdict bytes (length points) (length row)
 
-  pub answered : s .answer ≡ answer v 0
-  answered = ap (λ (s : SlipRead). s .answer) (x .answers) ∙ reading-answer v bytes
+  pub answered : s.answer ≡ answer v 0
+  answered = ap (λ (s : SlipRead). s.answer) x.answers ∙ reading_answer v bytes
 
-  pub read-no : (y : Refusal) → s .answer ≡ No y → v ≡ Refused y
-  read-no y e = answer-refused v 0 y (sym answered ∙ e)
+  pub read_no : (y : Refusal) → s.answer ≡ No y → v ≡ Refused y
+  read_no y e = answer_refused v 0 y (sym answered ∙ e)
 
-  module _ (d : ℕ) (done : s .answer ≡ Done d) where
-    pub read-fine : v ≡ Fine
-    read-fine = answer-done v 0 d (sym answered ∙ done)
+  module _ (d : ℕ) (done : s.answer ≡ Done d) where
+    pub read_fine : v ≡ Fine
+    read_fine = answer_done v 0 d (sym answered ∙ done)
 
     -- its numbers are those that stand in the slip
-    pub read-numbers : s ≡ reading Fine bytes
-    read-numbers = x .answers ∙ ap (λ (v : Verdict). reading v bytes) read-fine
+    pub read_numbers : s ≡ reading Fine bytes
+    read_numbers = x.answers ∙ ap (λ (v : Verdict). reading v bytes) read_fine
 
     -- the buffers begin with its points and its row
-    points-front : points′ ≡ front (pointsIn bytes) points
+    points_front : points' ≡ front (points_in bytes) points
     unfolding kept
-    points-front = x .leaves-points ∙ rw read-fine
+    points_front = x.leaves_points ∙ rw read_fine
 
-    row-front : row′ ≡ front (rowIn bytes) row
+    row_front : row' ≡ front (row_in bytes) row
     unfolding kept
-    row-front = x .leaves-row ∙ rw read-fine
+    row_front = x.leaves_row ∙ rw read_fine
 
-    pub points-in : take (countIn bytes) points′ ≡ pointsIn bytes
-    points-in = ap (take (countIn bytes)) points-front ∙ take-front (pointsIn bytes) points (countIn bytes) (length-points bytes)
+    pub points_inside : take (count_in bytes) points' ≡ points_in bytes
+    points_inside = ap (take (count_in bytes)) points_front ∙ take_front (points_in bytes) points (count_in bytes) (length_points bytes)
 
-    pub row-in : take (depthIn bytes * countIn bytes) row′ ≡ rowIn bytes
-    row-in = ap (take (depthIn bytes * countIn bytes)) row-front ∙ take-front (rowIn bytes) row (depthIn bytes * countIn bytes) (length-row bytes)
+    pub row_inside : take (depth_in bytes * count_in bytes) row' ≡ row_in bytes
+    row_inside = ap (take (depth_in bytes * count_in bytes)) row_front ∙ take_front (row_in bytes) row (depth_in bytes * count_in bytes) (length_row bytes)
 
-    pub points-fit : countIn bytes ≤ length points′
-    points-fit = rw points-front (omega (arith, length-points bytes, length-front (pointsIn bytes) points))
+    pub points_fit : count_in bytes ≤ length points'
+    points_fit = rw points_front (omega (arith, length_points bytes, length_front (points_in bytes) points))
 
-    pub row-fits : depthIn bytes * countIn bytes ≤ length row′
-    row-fits = rw row-front (omega (arith, length-row bytes, length-front (rowIn bytes) row))
+    pub row_fits : depth_in bytes * count_in bytes ≤ length row'
+    row_fits = rw row_front (omega (arith, length_row bytes, length_front (row_in bytes) row))

@@ -1,161 +1,161 @@
 -- Bytes that are read as a slip, with nothing in the bits that hold nothing, are the bytes that the writer makes of what was read.
-use Prim.Native.Nat.{ℕ, zero, suc, _+_, _*_, _-_, _<_, _≤_}
-use mathlib.Core.Path.{_≡_, refl, ap, sym, _∙_}
-use mathlib.Core.List.{List, [], _++_}
-use native.Mathlib.Nat.{zero-add, mul-comm}
+use Prim.Native.Nat.{ℕ, zero, suc, ◌+◌, ◌*◌, ◌-◌, ◌<◌, ◌≤◌}
+use mathlib.Core.Path.{◌≡◌, refl, ap, sym, ◌∙◌}
+use mathlib.Core.List.{List, [], ◌++◌}
+use native.Mathlib.Nat.{zero-add, mul_comm}
 use native.Mathlib.Omega.{arith}
-use native.Mathlib.Decide.{decLt}
+use native.Mathlib.Decide.{dec_lt}
 use lib.Dec.{lit<}
-use lib.ListN.{length, getD, List·getD-eq-default}
-use Rattle·defs.specs.Field.{Width}
-use Rattle·defs.specs.Place.{least, tab, Symbols}
-use Rattle·defs.specs.Slip.{allBits, numberAt, widthOf, fieldCode, headBits, slipSize, slipBits, slipOf, editionIn, layoutIn, widthIn, depthIn, countIn, dimensionIn, sizeIn, symbolsIn, pointsIn, rowIn, spareIn, usedIn, fillIn}
-use Rattle·defs.specs.Read.{readVerdict}
-use Rattle·defs.specs.declared.Layout.{Layout}
-use Rattle·defs.specs.declared.Verdict.the-variants.{Fine}
-use Rattle·theory.proofs.Place.{length-tab, tab-append, tab-same, tab-getD}
-use Rattle·theory.proofs.Width.{width-pos}
-use Rattle·slip·specs.specs.declared.Head.{Head}
-use Rattle·slip·specs.specs.Head.{headerBits, Fitting, Heads}
-use Rattle·slip·proofs.proofs.Bits.{length-all-bits, all-bits-are, number-nil, number-one, number-same, fields-same, bits-told, symbols-told}
-use Rattle·slip·proofs.proofs.Layouts.{edition-own}
-use Rattle·slip·proofs.proofs.HeaderBits.{fitting, header-edition, header-field, header-depth, header-count, header-dimension, header-spare}
-use Rattle·slip·proofs.proofs.Packed.{byte-is, slip-bits-are, in-header, behind-header}
-use Rattle·slip·proofs.proofs.Reader.{laid-in, Sound, sound, read-checked, read-clean}
-use Rattle·slip·proofs.proofs.Taken.{length-points}
+use lib.ListN.{length, get_or, get_or-eq_default}
+use Rattle.defs.specs.Field.{Width}
+use Rattle.defs.specs.Place.{least, tab, Symbols}
+use Rattle.defs.specs.Slip.{all_bits, number_at, width_of, field_code, head_bits, slip_size, slip_bits, slip_of, edition_in, layout_in, width_in, depth_in, count_in, dimension_in, size_in, symbols_in, points_in, row_in, spare_in, used_in, fill_in}
+use Rattle.defs.specs.Read.{read_verdict}
+use Rattle.defs.specs.declared.Layout.{Layout}
+use Rattle.defs.specs.declared.Verdict.TheVariants.{Fine}
+use Rattle.theory.proofs.Place.{length_tab, tab_append, tab_same, tab_get_d}
+use Rattle.theory.proofs.Width.{width_pos}
+use Rattle.slip.specs.declared.Head.{Head}
+use Rattle.slip.specs.Head.{header_bits, Fitting, Heads}
+use Rattle.slip.proofs.Bits.{length_all_bits, all_bits_are, number_nil, number_one, number_same, fields_same, bits_told, symbols_told}
+use Rattle.slip.proofs.Layouts.{edition_own}
+use Rattle.slip.proofs.HeaderBits.{fitting, header_edition, header_field, header_depth, header_count, header_dimension, header_spare}
+use Rattle.slip.proofs.Packed.{byte_is, slip_bits_are, in_header, behind_header}
+use Rattle.slip.proofs.Reader.{laid_in, Sound, sound, read_checked, read_clean}
+use Rattle.slip.proofs.Taken.{length_points}
 
 -- a field is told by its width
-field-told : (f : ℕ) → Width (widthOf f) → fieldCode (widthOf f) ≡ f
-unfolding fieldCode widthOf least
-field-told zero w = refl
-field-told (suc zero) w = refl
-field-told (suc (suc zero)) w = refl
-field-told (suc (suc (suc f))) w = absurd (omega (arith, width-pos _ w))
+field_told : (f : ℕ) → Width (width_of f) → field_code (width_of f) ≡ f
+unfolding field_code width_of least
+field_told zero w = refl
+field_told (suc zero) w = refl
+field_told (suc (suc zero)) w = refl
+field_told (suc (suc (suc f))) w = absurd (omega (arith, width_pos _ w))
 
 -- the fill of a sound slip is below a byte
-pub fill-few : (bytes : List ℕ) → Sound bytes → usedIn bytes ≤ 8 * length bytes × (8 * length bytes < usedIn bytes + 8)
-unfolding usedIn sizeIn slipSize
-fill-few bytes s = omega (arith, s .size, laid-in bytes .whole, mul-comm (widthIn bytes) (countIn bytes + depthIn bytes * countIn bytes))
+pub fill_few : (bytes : List ℕ) → Sound bytes → used_in bytes ≤ 8 * length bytes × (8 * length bytes < used_in bytes + 8)
+unfolding used_in size_in slip_size
+fill_few bytes s = omega (arith, s.size, (laid_in bytes).whole, mul_comm (width_in bytes) (count_in bytes + depth_in bytes * count_in bytes))
 
 -- where the header was read, and where the zero bits and the fill were
-module _ (bytes : List ℕ) (h : Head) (heads : Heads bytes h) (from : ℕ) (e : from ≡ headBits (h .layout)) where
-  pub used-is : from + h .m * (h .count + h .r * h .count) ≡ usedIn bytes
-  unfolding usedIn
-  used-is = rw (e, heads .layout-is, heads .m-is, heads .r-is, heads .count-is)
+module _ (bytes : List ℕ) (h : Head) (heads : Heads bytes h) (from : ℕ) (e : from ≡ head_bits h.layout) where
+  pub used_is : from + h.m * (h.count + h.r * h.count) ≡ used_in bytes
+  unfolding used_in
+  used_is = rw (e, heads.layout_is, heads.m_is, heads.r_is, heads.count_is)
 
-  pub loose-is : Sound bytes → (spare fill used : ℕ) → used ≡ usedIn bytes → spare ≡ numberAt (h .layout .zerobits) (from - h .layout .zerobits) (allBits 8 bytes)
-      → fill ≡ numberAt (8 * length bytes - used) used (allBits 8 bytes) → spare + fill ≡ spareIn bytes + fillIn bytes
-  unfolding spareIn fillIn headBits
-  loose-is s spare fill used u p q =
-      let place : from - h .layout .zerobits ≡ 9 + h .layout .countbits + h .layout .kbits = omega arith in
-      rw (p, q, place, u, heads .layout-is, s .size)
+  pub loose_is : Sound bytes → (spare fill used : ℕ) → used ≡ used_in bytes → spare ≡ number_at h.layout.zerobits (from - h.layout.zerobits) (all_bits 8 bytes)
+      → fill ≡ number_at (8 * length bytes - used) used (all_bits 8 bytes) → spare + fill ≡ spare_in bytes + fill_in bytes
+  unfolding spare_in fill_in head_bits
+  loose_is s spare fill used u p q =
+      let place : from - h.layout.zerobits ≡ 9 + h.layout.countbits + h.layout.kbits = omega arith in
+      rw (p, q, place, u, heads.layout_is, s.size)
 
 -- what was read of bytes, and the bits that hold nothing
 module _ (bytes : List ℕ) (are : Symbols 8 bytes) (s : Sound bytes) where
   abbrev S : List ℕ
-  S = allBits 8 bytes
+  S = all_bits 8 bytes
 
   abbrev L : Layout
-  L = layoutIn bytes
+  L = layout_in bytes
 
   abbrev m : ℕ
-  m = widthIn bytes
+  m = width_in bytes
 
   abbrev N : ℕ
-  N = countIn bytes + depthIn bytes * countIn bytes
+  N = count_in bytes + depth_in bytes * count_in bytes
 
   abbrev H : List ℕ
-  H = headerBits L m (depthIn bytes) (dimensionIn bytes) (countIn bytes)
+  H = header_bits L m (depth_in bytes) (dimension_in bytes) (count_in bytes)
 
   -- where the points begin
   abbrev start : ℕ
-  start = headBits L
+  start = head_bits L
 
   S-are : Symbols 1 S
-  S-are = all-bits-are 8 bytes
+  S-are = all_bits_are 8 bytes
 
-  body-is : pointsIn bytes ++ rowIn bytes ≡ tab (λ j. numberAt m (start + m * j) S) N
-  unfolding pointsIn rowIn symbolsIn
-  body-is = sym (tab-append (λ j. numberAt m (start + m * j) S) (countIn bytes) (depthIn bytes * countIn bytes)
-      ∙ ap (λ (x : List ℕ). x ++ tab (λ j. numberAt m (start + m * (countIn bytes + j)) S) (depthIn bytes * countIn bytes)) (tab-same _ _ (countIn bytes) (λ j l. rw (zero-add j))))
+  body_is : points_in bytes ++ row_in bytes ≡ tab (λ j. number_at m (start + m * j) S) N
+  unfolding points_in row_in symbols_in
+  body_is = sym (tab_append (λ j. number_at m (start + m * j) S) (count_in bytes) (depth_in bytes * count_in bytes)
+      ∙ ap (λ (x : List ℕ). x ++ tab (λ j. number_at m (start + m * (count_in bytes + j)) S) (depth_in bytes * count_in bytes)) (tab_same _ _ (count_in bytes) (λ j l. rw (zero-add j))))
 
   -- the header that is written has the fields of the one that was read
-  fits : Fitting L (depthIn bytes) (dimensionIn bytes) (countIn bytes)
-  fits = fitting L (laid-in bytes) m _ _ _ (s .fine)
+  fits : Fitting L (depth_in bytes) (dimension_in bytes) (count_in bytes)
+  fits = fitting L (laid_in bytes) m _ _ _ s.fine
 
-  header-told : spareIn bytes ≡ 0 → numberAt start 0 H ≡ numberAt start 0 S
-  unfolding headBits editionIn layoutIn widthIn depthIn countIn dimensionIn spareIn
-  header-told spare =
-      let r = depthIn bytes in
-      let k = dimensionIn bytes in
-      let n = countIn bytes in
-      let size : 9 + L .countbits + L .kbits + L .zerobits ≡ 4 + (2 + (3 + (L .countbits + (L .kbits + L .zerobits)))) = omega arith in
+  header_told : spare_in bytes ≡ 0 → number_at start 0 H ≡ number_at start 0 S
+  unfolding head_bits edition_in layout_in width_in depth_in count_in dimension_in spare_in
+  header_told spare =
+      let r = depth_in bytes in
+      let k = dimension_in bytes in
+      let n = count_in bytes in
+      let size : 9 + L.countbits + L.kbits + L.zerobits ≡ 4 + (2 + (3 + (L.countbits + (L.kbits + L.zerobits)))) = omega arith in
       rw size
-      (fields-same 4 (2 + (3 + (L .countbits + (L .kbits + L .zerobits)))) 0 H S (header-edition L m r k n (laid-in bytes) ∙ edition-own _ (s .known))
-      (fields-same 2 (3 + (L .countbits + (L .kbits + L .zerobits))) 4 H S (header-field L m r k n ∙ field-told (numberAt 2 4 S) (s .numbers .width))
-      (fields-same 3 (L .countbits + (L .kbits + L .zerobits)) 6 H S (omega (arith, header-depth L m r k n fits))
-      (fields-same (L .countbits) (L .kbits + L .zerobits) 9 H S (omega (arith, header-count L m r k n fits))
-      (fields-same (L .kbits) (L .zerobits) (9 + L .countbits) H S (omega (arith, header-dimension L m r k n fits))
-      (header-spare L m r k n ∙ sym spare))))))
+      (fields_same 4 (2 + (3 + (L.countbits + (L.kbits + L.zerobits)))) 0 H S (header_edition L m r k n (laid_in bytes) ∙ edition_own _ s.known)
+      (fields_same 2 (3 + (L.countbits + (L.kbits + L.zerobits))) 4 H S (header_field L m r k n ∙ field_told (number_at 2 4 S) s.numbers.width)
+      (fields_same 3 (L.countbits + (L.kbits + L.zerobits)) 6 H S (omega (arith, header_depth L m r k n fits))
+      (fields_same L.countbits (L.kbits + L.zerobits) 9 H S (omega (arith, header_count L m r k n fits))
+      (fields_same L.kbits L.zerobits (9 + L.countbits) H S (omega (arith, header_dimension L m r k n fits))
+      (header_spare L m r k n ∙ sym spare))))))
 
-  pub size-is : slipSize L m (length (pointsIn bytes) + length (rowIn bytes)) ≡ length bytes
-  unfolding pointsIn rowIn symbolsIn sizeIn
-  size-is = rw (length-tab, length-tab) (sym (s .size))
+  pub size_is : slip_size L m (length (points_in bytes) + length (row_in bytes)) ≡ length bytes
+  unfolding points_in row_in symbols_in size_in
+  size_is = rw (length_tab, length_tab) (sym s.size)
 
-  module _ (header : numberAt start 0 (headerBits L m (depthIn bytes) (dimensionIn bytes) (length (pointsIn bytes))) ≡ numberAt start 0 S)
-      (fill : numberAt (8 * length bytes - (start + m * N)) (start + m * N) S ≡ 0) where
+  module _ (header : number_at start 0 (header_bits L m (depth_in bytes) (dimension_in bytes) (length (points_in bytes))) ≡ number_at start 0 S)
+      (fill : number_at (8 * length bytes - (start + m * N)) (start + m * N) S ≡ 0) where
     abbrev B : List ℕ
-    B = slipBits L m (depthIn bytes) (dimensionIn bytes) (pointsIn bytes) (rowIn bytes)
+    B = slip_bits L m (depth_in bytes) (dimension_in bytes) (points_in bytes) (row_in bytes)
 
     B-are : Symbols 1 B
-    B-are = slip-bits-are L m (depthIn bytes) (dimensionIn bytes) (pointsIn bytes) (rowIn bytes)
+    B-are = slip_bits_are L m (depth_in bytes) (dimension_in bytes) (points_in bytes) (row_in bytes)
 
-    body-size : length (allBits m (pointsIn bytes ++ rowIn bytes)) ≡ m * N
-    body-size = rw body-is (length-all-bits m (tab (λ j. numberAt m (start + m * j) S) N) ∙ ap (λ (x : ℕ). m * x) (length-tab _ N))
+    body_size : length (all_bits m (points_in bytes ++ row_in bytes)) ≡ m * N
+    body_size = rw body_is (length_all_bits m (tab (λ j. number_at m (start + m * j) S) N) ∙ ap (λ (x : ℕ). m * x) (length_tab _ N))
 
     -- bit p behind the header
-    behind : (q : ℕ) → getD B (start + q) 0 ≡ getD (allBits m (pointsIn bytes ++ rowIn bytes)) q 0
+    behind : (q : ℕ) → get_or B (start + q) 0 ≡ get_or (all_bits m (points_in bytes ++ row_in bytes)) q 0
     behind q =
-        sym (number-one (start + q) B) ∙ behind-header L m (depthIn bytes) (dimensionIn bytes) (pointsIn bytes) (rowIn bytes) 1 q
-        ∙ number-one q (allBits m (pointsIn bytes ++ rowIn bytes))
+        sym (number_one (start + q) B) ∙ behind_header L m (depth_in bytes) (dimension_in bytes) (points_in bytes) (row_in bytes) 1 q
+        ∙ number_one q (all_bits m (points_in bytes ++ row_in bytes))
 
-    bit-told : (p : ℕ) → p < 8 * length bytes → getD B p 0 ≡ getD S p 0
-    bit-told p l = by-place (decLt p start) (decLt p (start + m * N))
+    bit_told : (p : ℕ) → p < 8 * length bytes → get_or B p 0 ≡ get_or S p 0
+    bit_told p l = by_place (dec_lt p start) (dec_lt p (start + m * N))
       where
-        filled : start + m * N ≤ p → getD S p 0 ≡ 0
+        filled : start + m * N ≤ p → get_or S p 0 ≡ 0
         filled h =
             let e : start + m * N + (p - (start + m * N)) ≡ p = omega arith in
-            let b = bits-told (8 * length bytes - (start + m * N)) (start + m * N) 0 S [] S-are (λ i. lit< tt) (fill ∙ sym (number-nil _ 0)) (p - (start + m * N)) (omega arith) in
+            let b = bits_told (8 * length bytes - (start + m * N)) (start + m * N) 0 S [] S-are (λ i. lit< tt) (fill ∙ sym (number_nil _ 0)) (p - (start + m * N)) (omega arith) in
             rw e at b
 
-        by-place : Dec (p < start) → Dec (p < start + m * N) → getD B p 0 ≡ getD S p 0
-        by-place (yes h) d =
-            let b = bits-told start 0 0 B S B-are S-are (in-header L m (depthIn bytes) (dimensionIn bytes) (pointsIn bytes) (rowIn bytes) start 0 (omega arith) ∙ header) p h in
+        by_place : Dec (p < start) → Dec (p < start + m * N) → get_or B p 0 ≡ get_or S p 0
+        by_place (yes h) d =
+            let b = bits_told start 0 0 B S B-are S-are (in_header L m (depth_in bytes) (dimension_in bytes) (points_in bytes) (row_in bytes) start 0 (omega arith) ∙ header) p h in
             rw (zero-add p) at b
-        by-place (no h) (yes d) =
+        by_place (no h) (yes d) =
             let e : start + (p - start) ≡ p = omega arith in
-            ap (λ (x : ℕ). getD B x 0) (sym e) ∙ behind (p - start) ∙ ap (λ (x : List ℕ). getD (allBits m x) (p - start) 0) body-is
-            ∙ symbols-told m start N S (width-pos m (s .numbers .width)) S-are (p - start) (omega arith) ∙ ap (λ (x : ℕ). getD S x 0) e
-        by-place (no h) (no d) =
+            ap (λ (x : ℕ). get_or B x 0) (sym e) ∙ behind (p - start) ∙ ap (λ (x : List ℕ). get_or (all_bits m x) (p - start) 0) body_is
+            ∙ symbols_told m start N S (width_pos m s.numbers.width) S-are (p - start) (omega arith) ∙ ap (λ (x : ℕ). get_or S x 0) e
+        by_place (no h) (no d) =
             let e : start + (p - start) ≡ p = omega arith in
-            ap (λ (x : ℕ). getD B x 0) (sym e) ∙ behind (p - start)
-            ∙ List·getD-eq-default (allBits m (pointsIn bytes ++ rowIn bytes)) 0 {n = p - start} (omega (arith, body-size)) ∙ sym (filled (omega arith))
+            ap (λ (x : ℕ). get_or B x 0) (sym e) ∙ behind (p - start)
+            ∙ get_or-eq_default (all_bits m (points_in bytes ++ row_in bytes)) 0 {n = p - start} (omega (arith, body_size)) ∙ sym (filled (omega arith))
 
-    slip-told : slipOf L m (depthIn bytes) (dimensionIn bytes) (pointsIn bytes) (rowIn bytes) ≡ bytes
-    unfolding slipOf
-    slip-told =
-        rw (size-is)
-        (tab-same _ (λ i. getD bytes i 0) (length bytes)
-        (λ i l. number-same 8 (8 * i) (8 * i) B S (λ b h. bit-told (8 * i + b) (omega arith)) ∙ byte-is bytes are i)
-        ∙ tab-getD bytes)
+    slip_told : slip_of L m (depth_in bytes) (dimension_in bytes) (points_in bytes) (row_in bytes) ≡ bytes
+    unfolding slip_of
+    slip_told =
+        rw (size_is)
+        (tab_same _ (λ i. get_or bytes i 0) (length bytes)
+        (λ i l. number_same 8 (8 * i) (8 * i) B S (λ b h. bit_told (8 * i + b) (omega arith)) ∙ byte_is bytes are i)
+        ∙ tab_get_d bytes)
 
 -- THE BYTES OF A SLIP THAT IS READ ARE WHAT THE WRITER MAKES OF WHAT WAS READ
-pub slip-read-whole : (bytes : List ℕ) → Symbols 8 bytes → (count n : ℕ) → readVerdict bytes count n ≡ Fine
-    → slipOf (layoutIn bytes) (widthIn bytes) (depthIn bytes) (dimensionIn bytes) (pointsIn bytes) (rowIn bytes) ≡ bytes
-unfolding fillIn usedIn
-slip-read-whole bytes are count n e =
-    let s = sound bytes (read-checked bytes count n e) in
-    let loose = read-clean bytes count n e in
-    slip-told bytes are s
-    (rw (length-points bytes) (header-told bytes are s (omega arith)))
-    (rw (s .size) (omega arith))
+pub slip_read_whole : (bytes : List ℕ) → Symbols 8 bytes → (count n : ℕ) → read_verdict bytes count n ≡ Fine
+    → slip_of (layout_in bytes) (width_in bytes) (depth_in bytes) (dimension_in bytes) (points_in bytes) (row_in bytes) ≡ bytes
+unfolding fill_in used_in
+slip_read_whole bytes are count n e =
+    let s = sound bytes (read_checked bytes count n e) in
+    let loose = read_clean bytes count n e in
+    slip_told bytes are s
+    (rw (length_points bytes) (header_told bytes are s (omega arith)))
+    (rw s.size (omega arith))

@@ -1,163 +1,163 @@
 -- The header of a slip over its layout: its bits, the number that they make, and each field of it.
-use Prim.Native.Nat.{ℕ, _+_, _*_, _-_, _%_, _^_, _<_}
-use mathlib.Core.Path.{_≡_, refl, sym, _∙_}
-use mathlib.Core.List.{List, _++_, append-assoc}
-use native.Mathlib.Nat.{add-assoc, mul-le-mul-right, mod-eq-of-lt, zero-mod}
+use Prim.Native.Nat.{ℕ, ◌+◌, ◌*◌, ◌-◌, ◌%◌, ◌^◌, ◌<◌}
+use mathlib.Core.Path.{◌≡◌, refl, sym, ◌∙◌}
+use mathlib.Core.List.{List, ◌++◌, append_assoc}
+use native.Mathlib.Nat.{add_assoc, mul-le-mul_right, mod-eq_of_lt, zero-mod}
 use native.Mathlib.Omega.{arith}
 use lib.Dec.{eqb}
 use lib.ListN.{length, length-append}
-use Rattle·defs.specs.Field.{Width}
-use Rattle·defs.specs.Place.{least, Symbols}
-use Rattle·defs.specs.Limits.{numbersVerdict}
-use Rattle·defs.specs.Slip.{bits, allBits, numberAt, widthOf, fieldCode, headBits, slipBits}
-use Rattle·defs.specs.declared.Layout.{Layout}
-use Rattle·defs.specs.declared.Verdict.the-variants.{Fine}
-use Rattle·theory.proofs.Place.{least-le}
-use Rattle·theory.proofs.Limits.{numbers-known, numbers-top}
-use Rattle·theory.proofs.Width.{by-width}
-use Rattle·slip·specs.specs.Laid.{Laid}
-use Rattle·slip·specs.specs.Head.{headerBits, Fitting}
-use Rattle·slip·proofs.proofs.Bits.{length-bits, symbols-append, bits-are, number-fields, number-field, number-past, number-bits, number-next}
+use Rattle.defs.specs.Field.{Width}
+use Rattle.defs.specs.Place.{least, Symbols}
+use Rattle.defs.specs.Limits.{numbers_verdict}
+use Rattle.defs.specs.Slip.{bits, all_bits, number_at, width_of, field_code, head_bits, slip_bits}
+use Rattle.defs.specs.declared.Layout.{Layout}
+use Rattle.defs.specs.declared.Verdict.TheVariants.{Fine}
+use Rattle.theory.proofs.Place.{least_le}
+use Rattle.theory.proofs.Limits.{numbers_known, numbers_top}
+use Rattle.theory.proofs.Width.{by_width}
+use Rattle.slip.specs.Laid.{Laid}
+use Rattle.slip.specs.Head.{header_bits, Fitting}
+use Rattle.slip.proofs.Bits.{length_bits, symbols_append, bits_are, number_fields, number_field, number_past, number_bits, number_next}
 
 -- numbers that the layout's longest row allows fit its fields
-pub fitting : (L : Layout) → Laid L → (m r k count : ℕ) → numbersVerdict (L .top) m r k count ≡ Fine → Fitting L r k count
+pub fitting : (L : Layout) → Laid L → (m r k count : ℕ) → numbers_verdict L.top m r k count ≡ Fine → Fitting L r k count
 fitting L laid m r k count e =
-    let n = numbers-known (L .top) m r k count (laid .top-low) e in
-    let top = numbers-top (L .top) m r k count (laid .top-low) e in
+    let n = numbers_known L.top m r k count laid.top_low e in
+    let top = numbers_top L.top m r k count laid.top_low e in
     record {
-      r-pos = n .r-pos;
-      r-top = n .r-top;
-      count-pos = n .count-pos;
-      count-top = omega (arith, laid .count-room, top, mul-le-mul-right count (n .r-pos));
-      k-pos = n .k-pos;
-      k-top = omega (arith, laid .k-room, top, n .k-top);
+      r_pos = n.r_pos;
+      r_top = n.r_top;
+      count_pos = n.count_pos;
+      count_top = omega (arith, laid.count_room, top, mul-le-mul_right count n.r_pos);
+      k_pos = n.k_pos;
+      k_top = omega (arith, laid.k_room, top, n.k_top);
     }
 
 -- a field has two bits
-field-below : (m : ℕ) → fieldCode m < 4
-unfolding fieldCode
-field-below m = omega (arith, least-le (λ field. eqb (widthOf field) m) 3)
+field_below : (m : ℕ) → field_code m < 4
+unfolding field_code
+field_below m = omega (arith, least_le (λ field. eqb (width_of field) m) 3)
 
 module _ (L : Layout) (m r k count : ℕ) where
   -- the fields from r - 1, n' - 1 and k - 1 on
-  abbrev k-on : List ℕ
-  k-on = bits (L .kbits) (k - 1) ++ bits (L .zerobits) 0
+  abbrev k_on : List ℕ
+  k_on = bits L.kbits (k - 1) ++ bits L.zerobits 0
 
-  abbrev count-on : List ℕ
-  count-on = bits (L .countbits) (count - 1) ++ k-on
+  abbrev count_on : List ℕ
+  count_on = bits L.countbits (count - 1) ++ k_on
 
-  abbrev r-on : List ℕ
-  r-on = bits 3 (r - 1) ++ count-on
+  abbrev r_on : List ℕ
+  r_on = bits 3 (r - 1) ++ count_on
 
-  abbrev field-on : List ℕ
-  field-on = bits 2 (fieldCode m) ++ r-on
+  abbrev field_on : List ℕ
+  field_on = bits 2 (field_code m) ++ r_on
 
-  pub header-length : length (headerBits L m r k count) ≡ headBits L
-  unfolding headerBits headBits
-  header-length =
+  pub header_length : length (header_bits L m r k count) ≡ head_bits L
+  unfolding header_bits head_bits
+  header_length =
       omega (
         arith,
-        length-append (bits 4 (L .edition)) field-on,
-        length-bits 4 (L .edition),
-        length-append (bits 2 (fieldCode m)) r-on,
-        length-bits 2 (fieldCode m),
-        length-append (bits 3 (r - 1)) count-on,
-        length-bits 3 (r - 1),
-        length-append (bits (L .countbits) (count - 1)) k-on,
-        length-bits (L .countbits) (count - 1),
-        length-append (bits (L .kbits) (k - 1)) (bits (L .zerobits) 0),
-        length-bits (L .kbits) (k - 1),
-        length-bits (L .zerobits) 0,
+        length-append (bits 4 L.edition) field_on,
+        length_bits 4 L.edition,
+        length-append (bits 2 (field_code m)) r_on,
+        length_bits 2 (field_code m),
+        length-append (bits 3 (r - 1)) count_on,
+        length_bits 3 (r - 1),
+        length-append (bits L.countbits (count - 1)) k_on,
+        length_bits L.countbits (count - 1),
+        length-append (bits L.kbits (k - 1)) (bits L.zerobits 0),
+        length_bits L.kbits (k - 1),
+        length_bits L.zerobits 0,
       )
 
-  field-are : (v x : ℕ) (t : List ℕ) → Symbols 1 t → Symbols 1 (bits v x ++ t)
-  field-are v x t h = symbols-append 1 (bits v x) t (bits-are v x) h
+  field_are : (v x : ℕ) (t : List ℕ) → Symbols 1 t → Symbols 1 (bits v x ++ t)
+  field_are v x t h = symbols_append 1 (bits v x) t (bits_are v x) h
 
-  pub header-are : Symbols 1 (headerBits L m r k count)
-  unfolding headerBits
-  header-are =
-      field-are 4 (L .edition) field-on
-      (field-are 2 (fieldCode m) r-on
-      (field-are 3 (r - 1) count-on
-      (field-are (L .countbits) (count - 1) k-on
-      (field-are (L .kbits) (k - 1) (bits (L .zerobits) 0) (bits-are (L .zerobits) 0)))))
+  pub header_are : Symbols 1 (header_bits L m r k count)
+  unfolding header_bits
+  header_are =
+      field_are 4 L.edition field_on
+      (field_are 2 (field_code m) r_on
+      (field_are 3 (r - 1) count_on
+      (field_are L.countbits (count - 1) k_on
+      (field_are L.kbits (k - 1) (bits L.zerobits 0) (bits_are L.zerobits 0)))))
 
   -- each field alone
-  pub header-width : Width m → widthOf (numberAt 2 4 (headerBits L m r k count)) ≡ m
-  unfolding headerBits widthOf fieldCode least
-  header-width w =
-      rw (number-past 2 0 4 (L .edition) field-on, number-field 2 (fieldCode m) r-on)
-      (by-width (λ v. widthOf (fieldCode v % 4) ≡ v) refl refl refl m w)
+  pub header_width : Width m → width_of (number_at 2 4 (header_bits L m r k count)) ≡ m
+  unfolding header_bits width_of field_code least
+  header_width w =
+      rw (number_past 2 0 4 L.edition field_on, number_field 2 (field_code m) r_on)
+      (by_width (λ v. width_of (field_code v % 4) ≡ v) refl refl refl m w)
 
-  pub header-field : numberAt 2 4 (headerBits L m r k count) ≡ fieldCode m
-  unfolding headerBits
-  header-field =
-      rw (number-past 2 0 4 (L .edition) field-on, number-field 2 (fieldCode m) r-on) (mod-eq-of-lt (field-below m))
+  pub header_field : number_at 2 4 (header_bits L m r k count) ≡ field_code m
+  unfolding header_bits
+  header_field =
+      rw (number_past 2 0 4 L.edition field_on, number_field 2 (field_code m) r_on) (mod-eq_of_lt (field_below m))
 
-  pub header-edition : Laid L → numberAt 4 0 (headerBits L m r k count) ≡ L .edition
-  unfolding headerBits
-  header-edition laid = rw (number-field 4 (L .edition) field-on) (mod-eq-of-lt (laid .edition-low))
+  pub header_edition : Laid L → number_at 4 0 (header_bits L m r k count) ≡ L.edition
+  unfolding header_bits
+  header_edition laid = rw (number_field 4 L.edition field_on) (mod-eq_of_lt laid.edition_low)
 
   -- past the fields of 4, 2 and 3 bits
-  past-fixed : (v p : ℕ) → numberAt v (9 + p) (headerBits L m r k count) ≡ numberAt v p count-on
-  unfolding headerBits
-  past-fixed v p =
+  past_fixed : (v p : ℕ) → number_at v (9 + p) (header_bits L m r k count) ≡ number_at v p count_on
+  unfolding header_bits
+  past_fixed v p =
       let e : 9 + p ≡ 4 + (2 + (3 + p)) = omega arith in
-      rw (e, number-past v (2 + (3 + p)) 4 (L .edition) field-on, number-past v (3 + p) 2 (fieldCode m) r-on, number-past v p 3 (r - 1) count-on)
+      rw (e, number_past v (2 + (3 + p)) 4 L.edition field_on, number_past v (3 + p) 2 (field_code m) r_on, number_past v p 3 (r - 1) count_on)
 
-  past-count : (v p : ℕ) → numberAt v (9 + L .countbits + p) (headerBits L m r k count) ≡ numberAt v p k-on
-  past-count v p = rw (add-assoc 9 (L .countbits) p, past-fixed v (L .countbits + p), number-past v p (L .countbits) (count - 1) k-on)
+  past_count : (v p : ℕ) → number_at v (9 + L.countbits + p) (header_bits L m r k count) ≡ number_at v p k_on
+  past_count v p = rw (add_assoc 9 L.countbits p, past_fixed v (L.countbits + p), number_past v p L.countbits (count - 1) k_on)
 
-  pub header-spare : numberAt (L .zerobits) (9 + L .countbits + L .kbits) (headerBits L m r k count) ≡ 0
-  header-spare =
-      let e : 9 + L .countbits + L .kbits ≡ 9 + L .countbits + (L .kbits + 0) = omega arith in
-      rw (e, past-count (L .zerobits) (L .kbits + 0), number-past (L .zerobits) 0 (L .kbits) (k - 1) (bits (L .zerobits) 0), number-bits (L .zerobits) 0)
-      (zero-mod (2 ^ L .zerobits))
+  pub header_spare : number_at L.zerobits (9 + L.countbits + L.kbits) (header_bits L m r k count) ≡ 0
+  header_spare =
+      let e : 9 + L.countbits + L.kbits ≡ 9 + L.countbits + (L.kbits + 0) = omega arith in
+      rw (e, past_count L.zerobits (L.kbits + 0), number_past L.zerobits 0 L.kbits (k - 1) (bits L.zerobits 0), number_bits L.zerobits 0)
+      (zero-mod (2 ^ L.zerobits))
 
   module _ (s : Fitting L r k count) where
-    r-low : r - 1 < 8
-    r-low = omega (arith, s .r-pos, s .r-top)
+    r_low : r - 1 < 8
+    r_low = omega (arith, s.r_pos, s.r_top)
 
-    count-low : count - 1 < 2 ^ L .countbits
-    count-low = omega (arith, s .count-pos, s .count-top)
+    count_low : count - 1 < 2 ^ L.countbits
+    count_low = omega (arith, s.count_pos, s.count_top)
 
-    k-low : k - 1 < 2 ^ L .kbits
-    k-low = omega (arith, s .k-pos, s .k-top)
+    k_low : k - 1 < 2 ^ L.kbits
+    k_low = omega (arith, s.k_pos, s.k_top)
 
-    pub header-depth : numberAt 3 6 (headerBits L m r k count) + 1 ≡ r
-    unfolding headerBits
-    header-depth =
-        rw (number-past 3 2 4 (L .edition) field-on, number-past 3 0 2 (fieldCode m) r-on, number-field 3 (r - 1) count-on, mod-eq-of-lt r-low)
-        (omega (arith, s .r-pos))
+    pub header_depth : number_at 3 6 (header_bits L m r k count) + 1 ≡ r
+    unfolding header_bits
+    header_depth =
+        rw (number_past 3 2 4 L.edition field_on, number_past 3 0 2 (field_code m) r_on, number_field 3 (r - 1) count_on, mod-eq_of_lt r_low)
+        (omega (arith, s.r_pos))
 
-    pub header-count : numberAt (L .countbits) 9 (headerBits L m r k count) + 1 ≡ count
-    header-count =
-        rw (past-fixed (L .countbits) 0, number-field (L .countbits) (count - 1) k-on, mod-eq-of-lt count-low)
-        (omega (arith, s .count-pos))
+    pub header_count : number_at L.countbits 9 (header_bits L m r k count) + 1 ≡ count
+    header_count =
+        rw (past_fixed L.countbits 0, number_field L.countbits (count - 1) k_on, mod-eq_of_lt count_low)
+        (omega (arith, s.count_pos))
 
-    pub header-dimension : numberAt (L .kbits) (9 + L .countbits) (headerBits L m r k count) + 1 ≡ k
-    header-dimension =
-        let e : 9 + L .countbits ≡ 9 + L .countbits + 0 = omega arith in
-        rw (e, past-count (L .kbits) 0, number-field (L .kbits) (k - 1) (bits (L .zerobits) 0), mod-eq-of-lt k-low)
-        (omega (arith, s .k-pos))
+    pub header_dimension : number_at L.kbits (9 + L.countbits) (header_bits L m r k count) + 1 ≡ k
+    header_dimension =
+        let e : 9 + L.countbits ≡ 9 + L.countbits + 0 = omega arith in
+        rw (e, past_count L.kbits 0, number_field L.kbits (k - 1) (bits L.zerobits 0), mod-eq_of_lt k_low)
+        (omega (arith, s.k_pos))
 
     -- written: edition, field and r - 1, then n' - 1, k - 1 and the zero bits, one behind another
-    pub header-number : Laid L → (field counted whole h : ℕ) → field ≡ fieldCode m
-        → counted ≡ ((L .edition * 4 + field) * 8 + (r - 1)) * 2 ^ L .countbits + (count - 1)
-        → whole ≡ counted * 2 ^ L .kbits + (k - 1) → h ≡ whole * 2 ^ L .zerobits + 0 → h ≡ numberAt (headBits L) 0 (headerBits L m r k count)
-    unfolding headerBits headBits
-    header-number laid field counted whole h f c w e =
-        let z = L .zerobits in
-        let size : 9 + L .countbits + L .kbits + z ≡ 4 + (2 + (3 + (L .countbits + (L .kbits + z)))) = omega arith in
+    pub header_number : Laid L → (field counted whole h : ℕ) → field ≡ field_code m
+        → counted ≡ ((L.edition * 4 + field) * 8 + (r - 1)) * 2 ^ L.countbits + (count - 1)
+        → whole ≡ counted * 2 ^ L.kbits + (k - 1) → h ≡ whole * 2 ^ L.zerobits + 0 → h ≡ number_at (head_bits L) 0 (header_bits L m r k count)
+    unfolding header_bits head_bits
+    header_number laid field counted whole h f c w e =
+        let z = L.zerobits in
+        let size : 9 + L.countbits + L.kbits + z ≡ 4 + (2 + (3 + (L.countbits + (L.kbits + z)))) = omega arith in
         e ∙ sym
-        (rw (size, number-fields 4 (2 + (3 + (L .countbits + (L .kbits + z)))) (L .edition) field-on, mod-eq-of-lt (laid .edition-low))
-        (number-next (L .edition) 2 (3 + (L .countbits + (L .kbits + z))) (fieldCode m) r-on (field-below m)
-        ∙ number-next (L .edition * 4 + fieldCode m) 3 (L .countbits + (L .kbits + z)) (r - 1) count-on r-low
-        ∙ number-next ((L .edition * 4 + fieldCode m) * 8 + (r - 1)) (L .countbits) (L .kbits + z) (count - 1) k-on count-low
+        (rw (size, number_fields 4 (2 + (3 + (L.countbits + (L.kbits + z)))) L.edition field_on, mod-eq_of_lt laid.edition_low)
+        (number_next L.edition 2 (3 + (L.countbits + (L.kbits + z))) (field_code m) r_on (field_below m)
+        ∙ number_next (L.edition * 4 + field_code m) 3 (L.countbits + (L.kbits + z)) (r - 1) count_on r_low
+        ∙ number_next ((L.edition * 4 + field_code m) * 8 + (r - 1)) L.countbits (L.kbits + z) (count - 1) k_on count_low
         ∙ rw (← f, ← c)
-        (number-next counted (L .kbits) z (k - 1) (bits z 0) k-low ∙ rw (← w, number-bits z 0, zero-mod (2 ^ z)))))
+        (number_next counted L.kbits z (k - 1) (bits z 0) k_low ∙ rw (← w, number_bits z 0, zero-mod (2 ^ z)))))
 
 -- the header, and then the points and the row
-pub header-first : (L : Layout) (m r k : ℕ) (points w : List ℕ) → slipBits L m r k points w ≡ headerBits L m r k (length points) ++ allBits m (points ++ w)
-unfolding slipBits headerBits
-header-first L m r k points w = simp append-assoc
+pub header_first : (L : Layout) (m r k : ℕ) (points w : List ℕ) → slip_bits L m r k points w ≡ header_bits L m r k (length points) ++ all_bits m (points ++ w)
+unfolding slip_bits header_bits
+header_first L m r k points w = simp append_assoc

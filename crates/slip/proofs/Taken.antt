@@ -1,74 +1,74 @@
 -- A slip that the reader takes: its code is inside the limits, and its row is one that the decoder takes.
-use Prim.Native.Nat.{ℕ, _+_, _*_, _^_, _<_}
-use mathlib.Core.Path.{_≡_, refl, sym, _∙_}
+use Prim.Native.Nat.{ℕ, ◌+◌, ◌*◌, ◌^◌, ◌<◌}
+use mathlib.Core.Path.{◌≡◌, refl, sym, ◌∙◌}
 use mathlib.Core.List.{List}
-use native.Mathlib.Decide.{decLt}
+use native.Mathlib.Decide.{dec_lt}
 use native.Mathlib.Omega.{arith}
-use lib.ListN.{length, getD, List·getD-eq-default}
-use lib.Pow.{pow-pos}
-use Rattle·defs.specs.Place.{Symbols, tab}
-use Rattle·defs.specs.Limits.{Within, Inside}
-use Rattle·defs.specs.Decode.{decodeVerdict}
-use Rattle·defs.specs.Slip.{allBits, numberAt, headBits, layoutIn, widthIn, depthIn, countIn, dimensionIn, symbolsIn, pointsIn, rowIn}
-use Rattle·defs.specs.Read.{readVerdict}
-use Rattle·defs.specs.declared.Verdict.the-variants.{Fine}
-use Rattle·theory.proofs.Place.{length-tab, getD-tab}
-use Rattle·theory.specs.Limits.{Limits}
-use Rattle·theory.proofs.Limits.{numbers-top, none-twice, limits-within, limits-inside}
-use Rattle·theory.proofs.Checks.{decode-fine}
-use Rattle·slip·proofs.proofs.Bits.{all-bits-are, number-below}
-use Rattle·slip·proofs.proofs.Front.{length-symbols}
-use Rattle·slip·proofs.proofs.Reader.{laid-in, Sound, sound, read-checked, read-once}
+use lib.ListN.{length, get_or, get_or-eq_default}
+use lib.Pow.{pow_pos}
+use Rattle.defs.specs.Place.{Symbols, tab}
+use Rattle.defs.specs.Limits.{Within, Inside}
+use Rattle.defs.specs.Decode.{decode_verdict}
+use Rattle.defs.specs.Slip.{all_bits, number_at, head_bits, layout_in, width_in, depth_in, count_in, dimension_in, symbols_in, points_in, row_in}
+use Rattle.defs.specs.Read.{read_verdict}
+use Rattle.defs.specs.declared.Verdict.TheVariants.{Fine}
+use Rattle.theory.proofs.Place.{length_tab, get_d_tab}
+use Rattle.theory.specs.Limits.{Limits}
+use Rattle.theory.proofs.Limits.{numbers_top, none_twice, limits_within, limits_inside}
+use Rattle.theory.proofs.Checks.{decode_fine}
+use Rattle.slip.proofs.Bits.{all_bits_are, number_below}
+use Rattle.slip.proofs.Front.{length_symbols}
+use Rattle.slip.proofs.Reader.{laid_in, Sound, sound, read_checked, read_once}
 
 module _ (bytes : List ℕ) where
   -- symbols of m bits are below 2 ^ m
-  symbols-in : (past n : ℕ) → Symbols (widthIn bytes) (symbolsIn bytes past n)
-  unfolding symbolsIn
-  symbols-in past n i = go (decLt i n)
+  symbols_inside : (past n : ℕ) → Symbols (width_in bytes) (symbols_in bytes past n)
+  unfolding symbols_in
+  symbols_inside past n i = go (dec_lt i n)
     where
       F : ℕ → ℕ
-      F j = numberAt (widthIn bytes) (headBits (layoutIn bytes) + widthIn bytes * (past + j)) (allBits 8 bytes)
+      F j = number_at (width_in bytes) (head_bits (layout_in bytes) + width_in bytes * (past + j)) (all_bits 8 bytes)
 
-      go : Dec (i < n) → getD (tab F n) i 0 < 2 ^ widthIn bytes
-      go (yes l) = rw (getD-tab F n i l) (number-below (widthIn bytes) (headBits (layoutIn bytes) + widthIn bytes * (past + i)) (allBits 8 bytes) (all-bits-are 8 bytes))
-      go (no l) = rw (List·getD-eq-default (tab F n) 0 {n = i} (omega (arith, length-tab F n))) (pow-pos (widthIn bytes))
+      go : Dec (i < n) → get_or (tab F n) i 0 < 2 ^ width_in bytes
+      go (yes l) = rw (get_d_tab F n i l) (number_below (width_in bytes) (head_bits (layout_in bytes) + width_in bytes * (past + i)) (all_bits 8 bytes) (all_bits_are 8 bytes))
+      go (no l) = rw (get_or-eq_default (tab F n) 0 {n = i} (omega (arith, length_tab F n))) (pow_pos (width_in bytes))
 
-  points-low : Symbols (widthIn bytes) (pointsIn bytes)
-  unfolding pointsIn
-  points-low = symbols-in 0 (countIn bytes)
+  points_low : Symbols (width_in bytes) (points_in bytes)
+  unfolding points_in
+  points_low = symbols_inside 0 (count_in bytes)
 
-  pub row-low : Symbols (widthIn bytes) (rowIn bytes)
-  unfolding rowIn
-  row-low = symbols-in (countIn bytes) (depthIn bytes * countIn bytes)
+  pub row_low : Symbols (width_in bytes) (row_in bytes)
+  unfolding row_in
+  row_low = symbols_inside (count_in bytes) (depth_in bytes * count_in bytes)
 
-  pub length-points : length (pointsIn bytes) ≡ countIn bytes
-  unfolding pointsIn
-  length-points = length-symbols bytes 0 (countIn bytes)
+  pub length_points : length (points_in bytes) ≡ count_in bytes
+  unfolding points_in
+  length_points = length_symbols bytes 0 (count_in bytes)
 
-  pub length-row : length (rowIn bytes) ≡ depthIn bytes * countIn bytes
-  unfolding rowIn
-  length-row = length-symbols bytes (countIn bytes) (depthIn bytes * countIn bytes)
+  pub length_row : length (row_in bytes) ≡ depth_in bytes * count_in bytes
+  unfolding row_in
+  length_row = length_symbols bytes (count_in bytes) (depth_in bytes * count_in bytes)
 
   -- whatever room there was for its points and its row
-  module _ (count n : ℕ) (fine : readVerdict bytes count n ≡ Fine) where
-    pub read-sound : Sound bytes
-    read-sound = sound bytes (read-checked bytes count n fine)
+  module _ (count n : ℕ) (fine : read_verdict bytes count n ≡ Fine) where
+    pub read_sound : Sound bytes
+    read_sound = sound bytes (read_checked bytes count n fine)
 
-    pub limits : Limits (widthIn bytes) (depthIn bytes) (dimensionIn bytes) (pointsIn bytes)
+    pub limits : Limits (width_in bytes) (depth_in bytes) (dimension_in bytes) (points_in bytes)
     limits = record {
-      numbers = rw length-points (read-sound .numbers);
-      symbols = points-low;
-      distinct = none-twice (pointsIn bytes) (rw length-points (read-once bytes count n fine));
+      numbers = rw length_points read_sound.numbers;
+      symbols = points_low;
+      distinct = none_twice (points_in bytes) (rw length_points (read_once bytes count n fine));
     }
 
     -- also with the longest row of its own edition
-    pub within : Within (layoutIn bytes .top) (widthIn bytes) (depthIn bytes) (dimensionIn bytes) (pointsIn bytes)
+    pub within : Within (layout_in bytes).top (width_in bytes) (depth_in bytes) (dimension_in bytes) (points_in bytes)
     within =
-        limits-within _ _ _ _ (pointsIn bytes) limits
-        (rw length-points (numbers-top (layoutIn bytes .top) _ _ _ _ (laid-in bytes .top-low) (read-sound .fine)))
+        limits_within _ _ _ _ (points_in bytes) limits
+        (rw length_points (numbers_top (layout_in bytes).top _ _ _ _ (laid_in bytes).top_low read_sound.fine))
 
-    pub inside : Inside (widthIn bytes) (depthIn bytes) (dimensionIn bytes) (pointsIn bytes)
-    inside = limits-inside _ _ _ _ limits
+    pub inside : Inside (width_in bytes) (depth_in bytes) (dimension_in bytes) (points_in bytes)
+    inside = limits_inside _ _ _ _ limits
 
-    pub decodable : decodeVerdict (widthIn bytes) (depthIn bytes) (dimensionIn bytes) (pointsIn bytes) (rowIn bytes) (dimensionIn bytes) (countIn bytes) ≡ Fine
-    decodable = decode-fine _ _ _ (pointsIn bytes) (rowIn bytes) _ _ inside (length-row ∙ rw length-points) refl (sym length-points) row-low
+    pub decodable : decode_verdict (width_in bytes) (depth_in bytes) (dimension_in bytes) (points_in bytes) (row_in bytes) (dimension_in bytes) (count_in bytes) ≡ Fine
+    decodable = decode_fine _ _ _ (points_in bytes) (row_in bytes) _ _ inside (length_row ∙ rw length_points) refl (sym length_points) row_low

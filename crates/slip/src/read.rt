@@ -1,26 +1,18 @@
 // The reader of slips.
-ghost use mathlib.Core.Path.{_≡_};
-ghost use mathlib.Core.List.{[]};
-ghost use Prim.Native.Nat.{_+_, _*_, _<_, _≤_};
-ghost use lib.ListN.{length};
-ghost use Rattle·defs.specs.Limits.{longest, numbersVerdict, firstTwice};
-ghost use Rattle·defs.specs.Slip.{allBits, numberAt, slipSize, editionIn, sizeIn, symbolsIn, pointsIn, spareIn, fillIn};
-ghost use Rattle·defs.specs.Write.{front};
-ghost use Rattle·defs.specs.Read.{firstVerdict, headVerdict, readVerdict, reading, Read};
-ghost use Rattle·slip·specs.specs.Laid.{Laid};
-ghost use Rattle·slip·specs.specs.Head.{Heads, Holds};
-use crate::Head;
-use crate::layout;
-use crate::wide;
-use defs::Answer;
-use defs::LONGEST;
-use defs::Refusal;
-use defs::SlipRead;
-use defs::Verdict;
+ghost use Rattle.std.specs.Prelude.{◌≡◌, [], ◌+◌, ◌*◌, ◌<◌, ◌≤◌, length};
+ghost use Rattle.defs.specs.Limits.{longest, numbers_verdict, first_twice};
+ghost use Rattle.defs.specs.Slip.{all_bits, number_at, slip_size, edition_in, size_in, symbols_in, points_in, spare_in, fill_in};
+ghost use Rattle.defs.specs.Write.{front};
+ghost use Rattle.defs.specs.Read.{first_verdict, head_verdict, read_verdict, reading, Read};
+ghost use Rattle.slip.specs.Laid.{Laid};
+ghost use Rattle.slip.specs.Head.{Heads, Holds};
+
+use crate::{Head, layout, wide};
+use defs::{Answer, LONGEST, Refusal, SlipRead, Verdict};
 
 // The byte at i, and 0 behind the last one.
 fn byte_at(bytes: &[u8], i: usize) -> usize
-    ensures { λ b. ⌜ (b ≡ numberAt 8 (8 * i) (allBits 8 (now (bytes .entry)))) × (b < 256) ⌝ }
+    ensures { (result ≡ number_at 8 (8 * i) (all_bits 8 bytes.now)) × (result < 256) }
 {
     if i < bytes.len() {
         return wide(bytes[i]);
@@ -30,8 +22,8 @@ fn byte_at(bytes: &[u8], i: usize) -> usize
 
 // The number that stands in so many bits from this place on: in one byte, or in two.
 fn number_at(bytes: &[u8], place: usize, width: usize) -> usize
-    requires { ⌜ width ≤ 8 ⌝ }
-    ensures { λ x. ⌜ (x ≡ numberAt width place (allBits 8 (now (bytes .entry)))) × (x < 256) ⌝ }
+    requires { width ≤ 8 }
+    ensures { (result ≡ number_at width place (all_bits 8 bytes.now)) × (result < 256) }
 {
     let first = byte_at(bytes, place / 8);
     let pair = first * 256 + byte_at(bytes, place / 8 + 1);
@@ -40,14 +32,14 @@ fn number_at(bytes: &[u8], place: usize, width: usize) -> usize
 
 // The edition that stands in the bytes.
 pub fn edition_in(bytes: &[u8]) -> usize
-    ensures { λ e. ⌜ e ≡ editionIn (now (bytes .entry)) ⌝ }
+    ensures { result ≡ edition_in bytes.now }
 {
     number_at(bytes, 0, 4)
 }
 
 // What stands in the header, and 0 where the bytes are too short for it.
 fn head_of(bytes: &[u8]) -> Head
-    ensures { λ h. ⌜ Heads (now (bytes .entry)) h ⌝ }
+    ensures { Heads bytes.now result }
 {
     let edition = number_at(bytes, 0, 4);
     let layout = layout::layout_of(edition);
@@ -67,16 +59,16 @@ fn head_of(bytes: &[u8]) -> Head
 
 // Symbol j of m bits behind a header of so many.
 fn read_symbol(bytes: &[u8], start: usize, m: usize, j: usize) -> u8
-    requires { ⌜ (start ≤ 32) × (m ≤ 8) × (j < 2 * longest) ⌝ }
-    ensures { λ s. ⌜ s ≡ numberAt m (start + m * j) (allBits 8 (now (bytes .entry))) ⌝ }
+    requires { (start ≤ 32) × (m ≤ 8) × (j < 2 * longest) }
+    ensures { result ≡ number_at m (start + m * j) (all_bits 8 bytes.now) }
 {
     number_at(bytes, start + m * j, m) as u8
 }
 
 // Writes n symbols behind the header, past the first ones, to the front of a buffer.
 fn take_symbols(bytes: &[u8], head: Head, past: usize, n: usize, out: &mut [u8])
-    requires { ⌜ Holds (now bytes) head past n × (n ≤ length (now out)) ⌝ }
-    ensures { λ _. ⌜ now (out .exit) ≡ front (symbolsIn (now (bytes .entry)) past n) (now (out .entry)) ⌝ }
+    requires { Holds bytes.now head past n × (n ≤ length out.old) }
+    ensures { out.new ≡ front (symbols_in bytes.now past n) out.old }
 {
     let start = layout::head_bits(head.layout);
     let m = head.m;
@@ -89,15 +81,15 @@ fn take_symbols(bytes: &[u8], head: Head, past: usize, n: usize, out: &mut [u8])
 
 // The size of the slip with this header.
 fn head_size(head: Head) -> usize
-    requires { ⌜ Laid (head .layout) × (numbersVerdict (head .layout .top) (head .m) (head .r) (head .k) (head .count) ≡ Verdict.Fine) ⌝ }
-    ensures { λ s. ⌜ s ≡ slipSize (head .layout) (head .m) (head .count + head .r * head .count) ⌝ }
+    requires { Laid head.layout × (numbers_verdict head.layout.top head.m head.r head.k head.count ≡ Verdict.Fine) }
+    ensures { result ≡ slip_size head.layout head.m (head.count + head.r * head.count) }
 {
     layout::slip_size(head.layout, head.m, head.count + head.r * head.count)
 }
 
 // 10, 11, 10; 1, 3, 4; 10, on the header and the size: whether the bytes begin with a slip.
 pub fn check_first(bytes: &[u8]) -> Verdict
-    ensures { λ v. ⌜ v ≡ firstVerdict (now (bytes .entry)) ⌝ }
+    ensures { result ≡ first_verdict bytes.now }
 {
     if bytes.len() < 3 {
         return Verdict::Refused(Refusal::SlipShort);
@@ -122,15 +114,15 @@ pub fn check_first(bytes: &[u8]) -> Verdict
 
 // The size of the slip that the bytes begin with, by its header.
 pub fn size_in(bytes: &[u8]) -> usize
-    requires { ⌜ firstVerdict (now bytes) ≡ Verdict.Fine ⌝ }
-    ensures { λ n. ⌜ n ≡ sizeIn (now (bytes .entry)) ⌝ }
+    requires { first_verdict bytes.now ≡ Verdict.Fine }
+    ensures { result ≡ size_in bytes.now }
 {
     head_size(head_of(bytes))
 }
 
 // The same and then 12.
 fn check_head(bytes: &[u8]) -> Verdict
-    ensures { λ v. ⌜ v ≡ headVerdict (now (bytes .entry)) ⌝ }
+    ensures { result ≡ head_verdict bytes.now }
 {
     let v = check_first(bytes);
     if let Verdict::Refused(x) = v {
@@ -144,8 +136,8 @@ fn check_head(bytes: &[u8]) -> Verdict
 
 // The least index of a point in a slip that equals an earlier one, and their number where there is none.
 fn twice_in(bytes: &[u8], head: Head) -> usize
-    requires { ⌜ (headVerdict (now bytes) ≡ Verdict.Fine) × Heads (now bytes) head ⌝ }
-    ensures { λ i. ⌜ i ≡ firstTwice (pointsIn (now (bytes .entry))) ⌝ }
+    requires { (head_verdict bytes.now ≡ Verdict.Fine) × Heads bytes.now head }
+    ensures { result ≡ first_twice (points_in bytes.now) }
 {
     let mut found = [0u8; LONGEST];
     let count = head.count;
@@ -155,8 +147,8 @@ fn twice_in(bytes: &[u8], head: Head) -> usize
 
 // What stands in the zero bits and in the fill behind the last symbol, added up.
 fn loose_bits(bytes: &[u8], head: Head) -> usize
-    requires { ⌜ (headVerdict (now bytes) ≡ Verdict.Fine) × Heads (now bytes) head ⌝ }
-    ensures { λ x. ⌜ x ≡ spareIn (now (bytes .entry)) + fillIn (now (bytes .entry)) ⌝ }
+    requires { (head_verdict bytes.now ≡ Verdict.Fine) × Heads bytes.now head }
+    ensures { result ≡ spare_in bytes.now + fill_in bytes.now }
 {
     let layout = head.layout;
     let start = layout::head_bits(layout);
@@ -168,7 +160,7 @@ fn loose_bits(bytes: &[u8], head: Head) -> usize
 
 // The checks of the reader. count and n are the lengths of its two buffers.
 fn check_read(bytes: &[u8], count: usize, n: usize) -> Verdict
-    ensures { λ v. ⌜ v ≡ readVerdict (now (bytes .entry)) count n ⌝ }
+    ensures { result ≡ read_verdict bytes.now count n }
 {
     let v = check_head(bytes);
     if let Verdict::Refused(x) = v {
@@ -196,7 +188,7 @@ fn check_read(bytes: &[u8], count: usize, n: usize) -> Verdict
 }
 
 fn refused(x: Refusal) -> SlipRead
-    ensures { λ s. ⌜ s ≡ reading (Verdict.Refused x) [] ⌝ }
+    ensures { result ≡ reading (Verdict.Refused x) [] }
 {
     SlipRead {
         answer: Answer::Refused(x),
@@ -210,7 +202,7 @@ fn refused(x: Refusal) -> SlipRead
 
 // Reads a slip into its edition, the code's numbers, its points and a row. Done with 0.
 pub fn slip_read(bytes: &[u8], points: &mut [u8], row: &mut [u8]) -> SlipRead
-    ensures { λ s. ⌜ Read (now (bytes .entry)) (now (points .entry)) (now (row .entry)) s (now (points .exit)) (now (row .exit)) ⌝ }
+    ensures { Read bytes.now points.old row.old result points.new row.new }
 {
     let v = check_read(bytes, points.len(), row.len());
     if let Verdict::Refused(x) = v {

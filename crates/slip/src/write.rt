@@ -1,34 +1,28 @@
 // The writer of slips.
-ghost use mathlib.Core.Path.{_≡_};
-ghost use mathlib.Core.List.{_++_};
-ghost use Prim.Native.Nat.{_+_, _*_, _^_, _<_, _≤_};
-ghost use lib.ListN.{length, getD};
-ghost use Rattle·defs.specs.Field.{Width};
-ghost use Rattle·defs.specs.Place.{Symbols};
-ghost use Rattle·defs.specs.Limits.{Within};
-ghost use Rattle·defs.specs.Slip.{allBits, numberAt, headBits, slipBits, slipSize, longestSlip, slipOf};
-ghost use Rattle·defs.specs.Write.{front, writeVerdict, Written};
-ghost use Rattle·slip·specs.specs.Laid.{Laid};
-ghost use Rattle·slip·specs.specs.Head.{headerBits, Fitting};
-use crate::layout;
-use crate::wide;
-use defs::Answer;
-use defs::Layout;
-use defs::Refusal;
-use defs::Verdict;
+ghost use Rattle.std.specs.Prelude.{◌≡◌, ◌++◌, ◌+◌, ◌*◌, ◌^◌, ◌<◌, ◌≤◌, length, get_or};
+ghost use Rattle.defs.specs.Field.{Width};
+ghost use Rattle.defs.specs.Place.{Symbols};
+ghost use Rattle.defs.specs.Limits.{Within};
+ghost use Rattle.defs.specs.Slip.{all_bits, number_at, head_bits, slip_bits, slip_size, longest_slip, slip_of};
+ghost use Rattle.defs.specs.Write.{front, write_verdict, Written};
+ghost use Rattle.slip.specs.Laid.{Laid};
+ghost use Rattle.slip.specs.Head.{header_bits, Fitting};
+
+use crate::{layout, wide};
+use defs::{Answer, Layout, Refusal, Verdict};
 
 // A number of so many bits behind another.
 fn behind(h: usize, width: usize, x: usize) -> usize
-    requires { ⌜ (h < 2 ^ 32) × (width ≤ 8) × (x < 2 ^ 32) ⌝ }
-    ensures { λ n. ⌜ (n ≡ h * 2 ^ width + x) × (n ≤ h * 256 + x) ⌝ }
+    requires { (h < 2 ^ 32) × (width ≤ 8) × (x < 2 ^ 32) }
+    ensures { (result ≡ h * 2 ^ width + x) × (result ≤ h * 256 + x) }
 {
     (h << width) + x
 }
 
 // The header as a number: edition, field, r - 1, n' - 1, k - 1 and the zero bits.
 fn header(layout: Layout, m: usize, r: usize, k: usize, count: usize) -> usize
-    requires { ⌜ Laid layout × Fitting layout r k count ⌝ }
-    ensures { λ h. ⌜ h ≡ numberAt (headBits layout) 0 (headerBits layout m r k count) ⌝ }
+    requires { Laid layout × Fitting layout r k count }
+    ensures { result ≡ number_at (head_bits layout) 0 (header_bits layout m r k count) }
 {
     let field = layout::field_code(m);
     let fixed = (layout.edition * 4 + field) * 8 + (r - 1);
@@ -39,7 +33,7 @@ fn header(layout: Layout, m: usize, r: usize, k: usize, count: usize) -> usize
 
 // The symbol at j of the points and then the row, and 0 behind them.
 fn symbol(points: &[u8], row: &[u8], j: usize) -> u8
-    ensures { λ s. ⌜ s ≡ getD (now (points .entry) ++ now (row .entry)) j 0 ⌝ }
+    ensures { result ≡ get_or (points.now ++ row.now) j 0 }
 {
     if j < points.len() {
         return points[j];
@@ -53,8 +47,8 @@ fn symbol(points: &[u8], row: &[u8], j: usize) -> u8
 
 // The byte at i of the packed points and symbols, 8 / m of them. left of these are still to come.
 fn pack(m: usize, points: &[u8], row: &[u8], i: usize) -> u8
-    requires { ⌜ Width m × Symbols m (now points ++ now row) × (i < 2 ^ 32) ⌝ }
-    ensures { λ b. ⌜ b ≡ numberAt 8 (8 * i) (allBits m (now (points .entry) ++ now (row .entry))) ⌝ }
+    requires { Width m × Symbols m (points.now ++ row.now) × (i < 2 ^ 32) }
+    ensures { result ≡ number_at 8 (8 * i) (all_bits m (points.now ++ row.now)) }
 {
     let size = field::field_size(m);
     let each = 8 / m;
@@ -78,8 +72,8 @@ fn slip_byte(
     row: &[u8],
     i: usize,
 ) -> u8
-    requires { ⌜ Laid layout × Within (layout .top) m r k (now points) × Symbols m (now row) × (i < 2 ^ 32) ⌝ }
-    ensures { λ b. ⌜ b ≡ numberAt 8 (8 * i) (slipBits layout m r k (now (points .entry)) (now (row .entry))) ⌝ }
+    requires { Laid layout × Within layout.top m r k points.now × Symbols m row.now × (i < 2 ^ 32) }
+    ensures { result ≡ number_at 8 (8 * i) (slip_bits layout m r k points.now row.now) }
 {
     let first = layout::head_bits(layout) / 8;
     if first <= i {
@@ -100,9 +94,9 @@ fn fill_slip(
     size: usize,
     bytes: &mut [u8],
 )
-    requires { ⌜ Laid layout × Within (layout .top) m r k (now points) × Symbols m (now row) ⌝ }
-    requires { ⌜ (size ≡ slipSize layout m (length (now points) + length (now row))) × (size ≤ longestSlip) × (size ≤ length (now bytes)) ⌝ }
-    ensures { λ _. ⌜ now (bytes .exit) ≡ front (slipOf layout m r k (now (points .entry)) (now (row .entry))) (now (bytes .entry)) ⌝ }
+    requires laid { Laid layout × Within layout.top m r k points.now × Symbols m row.now }
+    requires size_value { (size ≡ slip_size layout m (length points.now + length row.now)) × (size ≤ longest_slip) × (size ≤ length bytes.old) }
+    ensures { bytes.new ≡ front (slip_of layout m r k points.now row.now) bytes.old }
 {
     let mut i = 0;
     while i < size {
@@ -121,7 +115,7 @@ fn check_write(
     row: &[u8],
     size: usize,
 ) -> Verdict
-    ensures { λ v. ⌜ v ≡ writeVerdict edition m r k (now (points .entry)) (now (row .entry)) size ⌝ }
+    ensures { result ≡ write_verdict edition m r k points.now row.now size }
 {
     if !layout::is_edition(edition) {
         return Verdict::Refused(Refusal::Edition);
@@ -155,7 +149,7 @@ pub fn slip_write(
     row: &[u8],
     bytes: &mut [u8],
 ) -> Answer
-    ensures { λ a. ⌜ Written edition m r k (now (points .entry)) (now (row .entry)) (now (bytes .entry)) a (now (bytes .exit)) ⌝ }
+    ensures { Written edition m r k points.now row.now bytes.old result bytes.new }
 {
     let v = check_write(edition, m, r, k, points, row, bytes.len());
     if let Verdict::Refused(x) = v {

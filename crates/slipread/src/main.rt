@@ -1,8 +1,11 @@
 // Reads a slip from standard input and prints its line. One byte more than a slip may have is enough to decide.
-use slip::LONGEST_SLIP;
+#![tactic(auto)]
 
-fn main() {
+use slip::LONGEST_SLIP;
+use std::io;
+
+fn main(rt: HostRuntime) -> io::Result<()> {
     let mut bytes = [0u8; LONGEST_SLIP + 1];
-    let n = io::read_full(0, &mut bytes);
-    printing::print_line(&bytes[..n]);
+    let n = printing::read_full(&mut rt.stdin(), &mut bytes)?;
+    printing::print_line(&rt, &bytes[..n])
 }

@@ -1,9 +1,8 @@
 -- What an elimination of the system M answers, with N the matrix that it leaves.
-use Prim.Native.Nat.{ℕ, _<_, _^_}
-use mathlib.Core.Path.{_≡_}
-use Rattle·solve·specs.specs.System.{Matrix, Solves, free}
-use Rattle·solve·specs.specs.declared.Solved.{Solved}
-use Rattle·solve·specs.specs.declared.Solved.the-variants.{Free, Full}
+use Rattle.std.specs.Prelude.{ℕ, ◌<◌, ◌^◌, ◌≡◌}
+use Rattle.solve.specs.System.{Matrix, Solves, free}
+use Rattle.solve.specs.declared.Solved.{Solved}
+use Rattle.solve.specs.declared.Solved.TheVariants.{Free, Full}
 
 -- unknown c is free: the vector that N's column c gives is not zero, and solves M
 pub record IsFree (m rows cols : ℕ) (M N : Matrix) (c : ℕ) : Type 0 where

@@ -1,20 +1,17 @@
 -- The multiples of a row by which any multiple of it is a sum of two: x times and 16 x times the row, for x below 16.
-use Prim.Native.Nat.{ℕ, _+_, _*_, _/_, _%_, _^_, _<_, _≤_}
-use mathlib.Core.Path.{_≡_}
-use mathlib.Core.List.{List}
-use lib.ListN.{length}
-use Rattle·defs.specs.Field.{Width, add, times2, mul}
-use Rattle·defs.specs.Place.{Symbols}
-use Rattle·solve·specs.specs.Table.{stride}
-use Rattle·solve·specs.specs.System.{Matrix}
+use Rattle.std.specs.Prelude.{ℕ, ◌+◌, ◌*◌, ◌/◌, ◌%◌, ◌^◌, ◌<◌, ◌≤◌, ◌≡◌, List, length}
+use Rattle.defs.specs.Field.{Width, add, times2, mul}
+use Rattle.defs.specs.Place.{Symbols}
+use Rattle.solve.specs.Table.{stride}
+use Rattle.solve.specs.System.{Matrix}
 
-abbrev pub multiplesSize : ℕ
-multiplesSize = 32 * stride
+abbrev pub multiples_size : ℕ
+multiples_size = 32 * stride
 
 -- 32 rows of symbols of the field with 2 ^ m elements
 pub record Rows (m : ℕ) (w : List ℕ) : Type 0 where
   pub width : Width m
-  pub size : length w ≡ multiplesSize
+  pub size : length w ≡ multiples_size
   pub symbols : Symbols m w
 
 -- in the columns from start to cols - 1, row 1 of N is row c of M; rows 0 and 16 are 0

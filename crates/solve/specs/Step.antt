@@ -1,10 +1,9 @@
 -- What each step of the elimination does to the matrix M, entry by entry, and what it keeps.
-use Prim.Native.Nat.{ℕ, suc, _<_, _≤_}
-use mathlib.Core.Path.{_≡_}
-use Rattle·defs.specs.Field.{add, mul}
-use Rattle·defs.specs.Row.{sumFrom}
-use Rattle·solve·specs.specs.Table.{stride}
-use Rattle·solve·specs.specs.System.{Matrix, Solves, free}
+use Rattle.std.specs.Prelude.{ℕ, suc, ◌<◌, ◌≤◌, ◌≡◌}
+use Rattle.defs.specs.Field.{add, mul}
+use Rattle.defs.specs.Row.{sum_from}
+use Rattle.solve.specs.Table.{stride}
+use Rattle.solve.specs.System.{Matrix, Solves, free}
 
 -- p is the first row from c on with an entry that is not 0 in column c, or rows where there is none
 pub record Pivot (rows c : ℕ) (M : Matrix) (p : ℕ) : Type 0 where
@@ -42,4 +41,4 @@ pub record Spread (m c k : ℕ) (M N : Matrix) : Type 0 where
 
 -- column c of N holds the unknowns that the rows of M above row c ask, where unknown c is 1 and those after it are 0
 pub record Back (m c : ℕ) (M N : Matrix) : Type 0 where
-  pub asked : (i : ℕ) → i < c → N i c ≡ sumFrom (suc i) (suc c) (λ j. mul m (M i j) (free N c j))
+  pub asked : (i : ℕ) → i < c → N i c ≡ sum_from (suc i) (suc c) (λ j. mul m (M i j) (free N c j))

@@ -1,10 +1,7 @@
 -- Systems of homogeneous linear equations. A matrix is a function of the row and the column, a vector one of the column.
-use Prim.Native.Nat.{ℕ, _<_}
-use mathlib.Core.Path.{_≡_}
-use mathlib.Core.Bool.{cond}
-use lib.Dec.{eqb, ltb}
-use Rattle·defs.specs.Field.{mul}
-use Rattle·defs.specs.Row.{sum}
+use Rattle.std.specs.Prelude.{ℕ, ◌<◌, ◌≡◌, cond, eqb, ltb}
+use Rattle.defs.specs.Field.{mul}
+use Rattle.defs.specs.Row.{sum}
 
 abbrev pub Matrix : Type 0
 Matrix = ℕ → ℕ → ℕ

@@ -1,16 +1,17 @@
 // Elimination over a field with 2^m elements, to the first column that depends on those before it.
 // A system's rows stand in a working table, one after the other; its last rows and columns may be unused.
+#![tactic(auto)]
+
 mod multiples;
 
+ghost use Rattle.std.specs.Prelude.{◌≡◌, ℕ, ◌+◌, ◌*◌, ◌<◌, ◌≤◌, ◌^◌, length};
+ghost use Rattle.defs.specs.Limits.{longest};
+ghost use Rattle.solve.specs.Table.{stride, table_size, at, Shape};
+ghost use Rattle.solve.specs.System.{free};
+ghost use Rattle.solve.specs.Step.{Pivot, Added, Alike, Stairs, Leads, Spread, Back};
+ghost use Rattle.solve.specs.Answer.{Answers};
+
 use defs::LONGEST;
-ghost use mathlib.Core.Path.{_≡_};
-ghost use Prim.Native.Nat.{ℕ, _+_, _*_, _<_, _≤_, _^_};
-ghost use lib.ListN.{length};
-ghost use Rattle·defs.specs.Limits.{longest};
-ghost use Rattle·solve·specs.specs.Table.{stride, tableSize, at, Shape};
-ghost use Rattle·solve·specs.specs.System.{free};
-ghost use Rattle·solve·specs.specs.Step.{Pivot, Added, Alike, Stairs, Leads, Spread, Back};
-ghost use Rattle·solve·specs.specs.Answer.{Answers};
 
 // The entries of a row of the working table, and those of the whole table.
 pub const STRIDE: usize = LONGEST + 1;
@@ -18,6 +19,7 @@ pub const STRIDE: usize = LONGEST + 1;
 pub const TABLE: usize = LONGEST * STRIDE;
 
 // What an elimination finds.
+#[derive(Drop)]
 pub enum Solved {
     // This unknown is free, and its column gives a solution that is not zero.
     Free(usize),
@@ -27,8 +29,8 @@ pub enum Solved {
 
 // The first row from c on with an entry that is not 0 in column c, or `rows`.
 fn find_pivot(t: &[u8; TABLE], rows: usize, c: usize) -> usize
-    requires { ⌜ (length (now t) ≡ tableSize) × (rows ≤ longest) × (c ≤ rows) × (c < stride) ⌝ }
-    ensures { λ p. ⌜ Pivot rows c (at (now (t .entry))) p ⌝ }
+    requires { (length t.now ≡ table_size) × (rows ≤ longest) × (c ≤ rows) × (c < stride) }
+    ensures { Pivot rows c (at t.now) result }
 {
     let mut i = c;
     while i < rows {
@@ -42,11 +44,11 @@ fn find_pivot(t: &[u8; TABLE], rows: usize, c: usize) -> usize
 
 // Adds row p times f to row r. Row p has 0 before column c, so the work starts there.
 fn add_row(t: &mut [u8; TABLE], m: usize, cols: usize, c: usize, r: usize, p: usize, f: u8)
-    requires { ⌜ Shape m (now t) ⌝ }
-    requires { ⌜ (f < 2 ^ m) × (r < longest) × (p < longest) × (c ≤ cols) × (cols ≤ stride) ⌝ }
-    requires { ⌜ ((j : ℕ) → j < c → at (now t) p j ≡ 0) ⌝ }
-    ensures { λ _. ⌜ Shape m (now (t .exit)) ⌝ }
-    ensures { λ _. ⌜ Added m cols r p f (at (now (t .entry))) (at (now (t .exit))) ⌝ }
+    requires shape { Shape m t.old }
+    requires f_bound { (f < 2 ^ m) × (r < longest) × (p < longest) × (c ≤ cols) × (cols ≤ stride) }
+    requires by_index { (j : ℕ) → j < c → at t.old p j ≡ 0 }
+    ensures shape_2 { Shape m t.new }
+    ensures added { Added m cols r p f (at t.old) (at t.new) }
 {
     let row = field::product_row(m, f);
     let base = r * STRIDE;
@@ -62,13 +64,13 @@ fn add_row(t: &mut [u8; TABLE], m: usize, cols: usize, c: usize, r: usize, p: us
 
 // Makes the pivot in row p 1, and adds its row to row c, which has 0 there, unless it is row c.
 fn bring_pivot(t: &mut [u8; TABLE], m: usize, rows: usize, cols: usize, c: usize, p: usize)
-    requires { ⌜ Shape m (now t) ⌝ }
-    requires { ⌜ (p < rows) × (rows ≤ longest) × (c < cols) × (cols ≤ stride) ⌝ }
-    requires { ⌜ Pivot rows c (at (now t)) p ⌝ }
-    requires { ⌜ Stairs rows c (at (now t)) ⌝ }
-    ensures { λ _. ⌜ Shape m (now (t .exit)) ⌝ }
-    ensures { λ _. ⌜ Alike m rows cols (at (now (t .entry))) (at (now (t .exit))) ⌝ }
-    ensures { λ _. ⌜ Leads rows c (c + 1) (at (now (t .exit))) ⌝ }
+    requires shape { Shape m t.old }
+    requires p_lt_rows { (p < rows) × (rows ≤ longest) × (c < cols) × (cols ≤ stride) }
+    requires pivot { Pivot rows c (at t.old) p }
+    requires stairs { Stairs rows c (at t.old) }
+    ensures shape_2 { Shape m t.new }
+    ensures alike { Alike m rows cols (at t.old) (at t.new) }
+    ensures leads { Leads rows c (c + 1) (at t.new) }
 {
     let a = field::inverse(m, t[p * STRIDE + c]);
     // Adding a row to itself scales it: x + (a + 1) x = a x.
@@ -81,12 +83,12 @@ fn bring_pivot(t: &mut [u8; TABLE], m: usize, rows: usize, cols: usize, c: usize
 
 // Clears column c in the rows after row c, which has 1 there.
 fn clear_below(t: &mut [u8; TABLE], m: usize, rows: usize, cols: usize, c: usize)
-    requires { ⌜ Shape m (now t) ⌝ }
-    requires { ⌜ (c < rows) × (rows ≤ longest) × (c < cols) × (cols ≤ stride) ⌝ }
-    requires { ⌜ Leads rows c (c + 1) (at (now t)) ⌝ }
-    ensures { λ _. ⌜ Shape m (now (t .exit)) ⌝ }
-    ensures { λ _. ⌜ Alike m rows cols (at (now (t .entry))) (at (now (t .exit))) ⌝ }
-    ensures { λ _. ⌜ Stairs rows (c + 1) (at (now (t .exit))) ⌝ }
+    requires shape { Shape m t.old }
+    requires c_lt_rows { (c < rows) × (rows ≤ longest) × (c < cols) × (cols ≤ stride) }
+    requires leads { Leads rows c (c + 1) (at t.old) }
+    ensures shape_2 { Shape m t.new }
+    ensures alike { Alike m rows cols (at t.old) (at t.new) }
+    ensures stairs { Stairs rows (c + 1) (at t.new) }
 {
     // Whole blocks of 16 entries are faster, and row c has 0 before column c.
     let start = c - c % 16;
@@ -103,10 +105,10 @@ fn clear_below(t: &mut [u8; TABLE], m: usize, rows: usize, cols: usize, c: usize
 
 // Adds column k, times unknown k, to column c above row k.
 fn spread(t: &mut [u8; TABLE], m: usize, c: usize, k: usize)
-    requires { ⌜ Shape m (now t) ⌝ }
-    requires { ⌜ (k < c) × (c < stride) ⌝ }
-    ensures { λ _. ⌜ Shape m (now (t .exit)) ⌝ }
-    ensures { λ _. ⌜ Spread m c k (at (now (t .entry))) (at (now (t .exit))) ⌝ }
+    requires shape { Shape m t.old }
+    requires k_lt_c { (k < c) × (c < stride) }
+    ensures shape_2 { Shape m t.new }
+    ensures spread { Spread m c k (at t.old) (at t.new) }
 {
     let row = field::product_row(m, t[k * STRIDE + c]);
     let mut i = 0;
@@ -121,10 +123,10 @@ fn spread(t: &mut [u8; TABLE], m: usize, c: usize, k: usize)
 
 // Puts the unknowns before c into column c, the last one first, where unknown c is 1 and those after it are 0.
 fn substitute(t: &mut [u8; TABLE], m: usize, c: usize)
-    requires { ⌜ Shape m (now t) ⌝ }
-    requires { ⌜ c < stride ⌝ }
-    ensures { λ _. ⌜ Shape m (now (t .exit)) ⌝ }
-    ensures { λ _. ⌜ Back m c (at (now (t .entry))) (at (now (t .exit))) ⌝ }
+    requires shape { Shape m t.old }
+    requires c_lt_stride { c < stride }
+    ensures shape_2 { Shape m t.new }
+    ensures back { Back m c (at t.old) (at t.new) }
 {
     let mut k = c;
     while k > 0 {
@@ -135,10 +137,10 @@ fn substitute(t: &mut [u8; TABLE], m: usize, c: usize)
 
 // Solves the system in the first `rows` rows and `cols` columns, up to the first unknown that is free.
 pub fn eliminate(t: &mut [u8; TABLE], m: usize, rows: usize, cols: usize) -> Solved
-    requires { ⌜ Shape m (now t) ⌝ }
-    requires { ⌜ (rows ≤ longest) × (cols ≤ stride) ⌝ }
-    ensures { λ _. ⌜ Shape m (now (t .exit)) ⌝ }
-    ensures { λ s. ⌜ Answers m rows cols (at (now (t .entry))) (at (now (t .exit))) s ⌝ }
+    requires shape { Shape m t.old }
+    requires rows_le_longest { (rows ≤ longest) × (cols ≤ stride) }
+    ensures shape_2 { Shape m t.new }
+    ensures answers { Answers m rows cols (at t.old) (at t.new) result }
 {
     let mut c = 0;
     while c < cols {
@@ -156,8 +158,8 @@ pub fn eliminate(t: &mut [u8; TABLE], m: usize, rows: usize, cols: usize) -> Sol
 
 // Unknown j of the solution that an elimination with the free unknown c leaves.
 pub fn unknown(t: &[u8; TABLE], c: usize, j: usize) -> u8
-    requires { ⌜ (length (now t) ≡ tableSize) × (c < stride) ⌝ }
-    ensures { λ x. ⌜ x ≡ free (at (now (t .entry))) c j ⌝ }
+    requires { (length t.now ≡ table_size) × (c < stride) }
+    ensures { result ≡ free (at t.now) c j }
 {
     if j < c {
         return t[j * STRIDE + c];

@@ -1,12 +1,11 @@
 // Multiples of a row, kept beside the working table so that any multiple of the row is the sum of two of them.
-use crate::STRIDE;
-use crate::TABLE;
-ghost use mathlib.Core.Path.{_≡_};
-ghost use Prim.Native.Nat.{ℕ, _<_, _≤_, _^_};
-ghost use Rattle·defs.specs.Limits.{longest};
-ghost use Rattle·solve·specs.specs.Table.{stride, at, Shape};
-ghost use Rattle·solve·specs.specs.Step.{Added};
-ghost use Rattle·solve·specs.specs.Multiples.{Rows, Copied, Set, Filled, Multiples};
+ghost use Rattle.std.specs.Prelude.{◌≡◌, ℕ, ◌<◌, ◌≤◌, ◌^◌};
+ghost use Rattle.defs.specs.Limits.{longest};
+ghost use Rattle.solve.specs.Table.{stride, at, Shape};
+ghost use Rattle.solve.specs.Step.{Added};
+ghost use Rattle.solve.specs.Multiples.{Rows, Copied, Set, Filled, Multiples};
+
+use crate::{STRIDE, TABLE};
 
 // The entries of the multiples of a row: its first 16, and the first 16 of 16 times the row.
 pub const MULTIPLES: usize = 32 * STRIDE;
@@ -21,10 +20,10 @@ fn set_multiple(
     half: usize,
     one: usize,
 )
-    requires { ⌜ Rows m (now w) ⌝ }
-    requires { ⌜ (x < 32) × (half < x) × (one < x) × (start ≤ cols) × (cols ≤ stride) ⌝ }
-    ensures { λ _. ⌜ Rows m (now (w .exit)) ⌝ }
-    ensures { λ _. ⌜ Set m start cols x half one (at (now (w .entry))) (at (now (w .exit))) ⌝ }
+    requires rows { Rows m w.old }
+    requires x_bound { (x < 32) × (half < x) × (one < x) × (start ≤ cols) × (cols ≤ stride) }
+    ensures rows_2 { Rows m w.new }
+    ensures set { Set m start cols x half one (at w.old) (at w.new) }
 {
     let to = x * STRIDE;
     let from = half * STRIDE;
@@ -40,11 +39,11 @@ fn set_multiple(
 
 // Makes the rows of w after row base, which is 0, the multiples of the first of them.
 fn fill(w: &mut [u8; MULTIPLES], m: usize, start: usize, cols: usize, base: usize)
-    requires { ⌜ Rows m (now w) ⌝ }
-    requires { ⌜ (base ≤ 16) × (start ≤ cols) × (cols ≤ stride) ⌝ }
-    requires { ⌜ ((j : ℕ) → start ≤ j → j < cols → at (now w) base j ≡ 0) ⌝ }
-    ensures { λ _. ⌜ Rows m (now (w .exit)) ⌝ }
-    ensures { λ _. ⌜ Filled m start cols base 16 (at (now (w .entry))) (at (now (w .exit))) ⌝ }
+    requires rows { Rows m w.old }
+    requires base_bound { (base ≤ 16) × (start ≤ cols) × (cols ≤ stride) }
+    requires by_index { (j : ℕ) → start ≤ j → j < cols → at w.old base j ≡ 0 }
+    ensures rows_2 { Rows m w.new }
+    ensures filled { Filled m start cols base 16 (at w.old) (at w.new) }
 {
     let mut x = 2;
     while x < 16 {
@@ -55,10 +54,10 @@ fn fill(w: &mut [u8; MULTIPLES], m: usize, start: usize, cols: usize, base: usiz
 
 // Row c of t as row 1, and 0 elsewhere.
 fn copied(t: &[u8; TABLE], m: usize, start: usize, cols: usize, c: usize) -> [u8; MULTIPLES]
-    requires { ⌜ Shape m (now t) ⌝ }
-    requires { ⌜ (start ≤ cols) × (cols ≤ stride) × (c < longest) ⌝ }
-    ensures { λ w. ⌜ Rows m w ⌝ }
-    ensures { λ w. ⌜ Copied start cols c (at (now (t .entry))) (at w) ⌝ }
+    requires shape { Shape m t.now }
+    requires start_le_cols { (start ≤ cols) × (cols ≤ stride) × (c < longest) }
+    ensures rows { Rows m result }
+    ensures copied { Copied start cols c (at t.now) (at result) }
 {
     let mut w = [0u8; MULTIPLES];
     let from = c * STRIDE;
@@ -72,10 +71,10 @@ fn copied(t: &[u8; TABLE], m: usize, start: usize, cols: usize, c: usize) -> [u8
 
 // The multiples of row c by which every other multiple is a sum of two.
 pub fn multiples(t: &[u8; TABLE], m: usize, start: usize, cols: usize, c: usize) -> [u8; MULTIPLES]
-    requires { ⌜ Shape m (now t) ⌝ }
-    requires { ⌜ (start ≤ cols) × (cols ≤ stride) × (c < longest) ⌝ }
-    ensures { λ w. ⌜ Rows m w ⌝ }
-    ensures { λ w. ⌜ Multiples m start cols (at (now (t .entry)) c) (at w) ⌝ }
+    requires shape { Shape m t.now }
+    requires start_le_cols { (start ≤ cols) × (cols ≤ stride) × (c < longest) }
+    ensures rows { Rows m result }
+    ensures multiples { Multiples m start cols (at t.now c) (at result) }
 {
     let mut w = copied(t, m, start, cols, c);
     fill(&mut w, m, start, cols, 0);
@@ -95,12 +94,12 @@ pub fn add_multiple(
     p: usize,
     f: u8,
 )
-    requires { ⌜ Shape m (now t) × Rows m (now w) ⌝ }
-    requires { ⌜ (f < 2 ^ m) × (r < longest) × (p < longest) × (start ≤ cols) × (cols ≤ stride) ⌝ }
-    requires { ⌜ Multiples m start cols (at (now t) p) (at (now w)) ⌝ }
-    requires { ⌜ ((j : ℕ) → j < start → at (now t) p j ≡ 0) ⌝ }
-    ensures { λ _. ⌜ Shape m (now (t .exit)) ⌝ }
-    ensures { λ _. ⌜ Added m cols r p f (at (now (t .entry))) (at (now (t .exit))) ⌝ }
+    requires shape { Shape m t.old × Rows m w.now }
+    requires f_bound { (f < 2 ^ m) × (r < longest) × (p < longest) × (start ≤ cols) × (cols ≤ stride) }
+    requires multiples { Multiples m start cols (at t.old p) (at w.now) }
+    requires by_index { (j : ℕ) → j < start → at t.old p j ≡ 0 }
+    ensures shape_2 { Shape m t.new }
+    ensures added { Added m cols r p f (at t.old) (at t.new) }
 {
     let base = r * STRIDE;
     let low = (f % 16) as usize * STRIDE;

@@ -1,21 +1,19 @@
 // Decimal numbers written into a buffer, piece behind piece, and a text handed out to a caller.
+#![tactic(auto)]
+
 mod number;
 
-pub use number::Number;
-pub use number::Value;
-pub use number::read_number;
-ghost use mathlib.Core.List.{[], _∷_};
-ghost use Prim.Native.Nat.{_+_, _<_, _≤_};
-ghost use lib.ListN.{length};
-ghost use Rattle·defs.specs.Text.{decimal};
-ghost use Rattle·text·specs.specs.Piece.{Wrote, Handed};
-use defs::Answer;
-use defs::Refusal;
+ghost use Rattle.std.specs.Prelude.{[], ◌∷◌, ◌+◌, ◌<◌, ◌≤◌, length};
+ghost use Rattle.defs.specs.Text.{decimal};
+ghost use Rattle.text.specs.Piece.{Wrote, Handed};
+
+use defs::{Answer, Refusal};
+pub use number::{Number, Value, read_number};
 
 // One byte.
 pub fn put(text: &mut [u8], at: usize, byte: u8) -> usize
-    requires { ⌜ at < length (now text) ⌝ }
-    ensures { λ end. ⌜ Wrote (now (text .entry)) at (byte ∷ []) (now (text .exit)) end ⌝ }
+    requires { at < length text.old }
+    ensures { Wrote text.old at (byte ∷ []) text.new result }
 {
     text[at] = byte;
     at + 1
@@ -23,8 +21,8 @@ pub fn put(text: &mut [u8], at: usize, byte: u8) -> usize
 
 // A number, without leading zeros.
 pub fn put_number(text: &mut [u8], at: usize, x: usize) -> usize
-    requires { ⌜ at + length (decimal x) ≤ length (now text) ⌝ }
-    ensures { λ end. ⌜ Wrote (now (text .entry)) at (decimal x) (now (text .exit)) end ⌝ }
+    requires { at + length (decimal x) ≤ length text.old }
+    ensures { Wrote text.old at (decimal x) text.new result }
 {
     if x < 10 {
         return put(text, at, 48 + x as u8);
@@ -35,8 +33,8 @@ pub fn put_number(text: &mut [u8], at: usize, x: usize) -> usize
 
 // A number behind a space.
 pub fn put_spaced(text: &mut [u8], at: usize, x: usize) -> usize
-    requires { ⌜ at + length (32 ∷ decimal x) ≤ length (now text) ⌝ }
-    ensures { λ end. ⌜ Wrote (now (text .entry)) at (32 ∷ decimal x) (now (text .exit)) end ⌝ }
+    requires { at + length (32 ∷ decimal x) ≤ length text.old }
+    ensures { Wrote text.old at (32 ∷ decimal x) text.new result }
 {
     let next = put(text, at, b' ');
     put_number(text, next, x)
@@ -44,7 +42,7 @@ pub fn put_spaced(text: &mut [u8], at: usize, x: usize) -> usize
 
 // Hands out a text, or refuses a buffer that is too short for it.
 pub fn hand_out(words: &[u8], text: &mut [u8]) -> Answer
-    ensures { λ a. ⌜ Handed (now (words .entry)) (now (text .entry)) a (now (text .exit)) ⌝ }
+    ensures { Handed words.now text.old result text.new }
 {
     if text.len() < words.len() {
         return Answer::Refused(Refusal::Length);

@@ -1,25 +1,24 @@
 // Decimal numbers read from a text, up to a highest one.
-ghost use mathlib.Core.Path.{_≡_};
-ghost use mathlib.Core.Bool.{true};
-ghost use Prim.Native.Nat.{_≤_};
-ghost use lib.ListN.{length, drop};
-ghost use Rattle·defs.specs.Text.{isDigit};
-ghost use Rattle·text·specs.specs.Number.{Grown, numberIn};
+ghost use Rattle.std.specs.Prelude.{◌≡◌, true, ◌≤◌, length, drop};
+ghost use Rattle.defs.specs.Text.{is_digit};
+ghost use Rattle.text.specs.Number.{Grown, number_in};
 
 // A number, or that it is above the highest.
+#[derive(Drop)]
 pub enum Value {
     Is(usize),
     Above,
 }
 
 // The digits from a place on: where they end, and the number that they make.
+#[derive(Drop)]
 pub struct Number {
     pub end: usize,
     pub value: Value,
 }
 
 fn is_digit(b: u8) -> bool
-    ensures { λ t. ⌜ t ≡ isDigit b ⌝ }
+    ensures { result ≡ is_digit b }
 {
     if b < 48 {
         return false;
@@ -29,8 +28,8 @@ fn is_digit(b: u8) -> bool
 
 // A digit more. A number above the highest is not formed, so that nothing runs over.
 fn grown(value: Value, b: u8, top: usize) -> Value
-    requires { ⌜ isDigit b ≡ true ⌝ }
-    ensures { λ w. ⌜ Grown top value b w ⌝ }
+    requires { is_digit b ≡ true }
+    ensures { Grown top value b result }
 {
     let Value::Is(v) = value else {
         return Value::Above;
@@ -47,8 +46,8 @@ fn grown(value: Value, b: u8, top: usize) -> Value
 
 // The number whose digits stand in a text from a place on.
 pub fn read_number(text: &[u8], at: usize, top: usize) -> Number
-    requires { ⌜ at ≤ length (now text) ⌝ }
-    ensures { λ n. ⌜ n ≡ numberIn top at (drop at (now (text .entry))) ⌝ }
+    requires { at ≤ length text.now }
+    ensures { result ≡ number_in top at (drop at text.now) }
 {
     let mut value = Value::Is(0);
     let mut i = at;

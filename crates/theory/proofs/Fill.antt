@@ -1,51 +1,51 @@
 -- One law for every loop that fills a buffer.
-use Prim.Native.Nat.{ℕ, suc, _+_, _<_, _≤_}
-use mathlib.Core.Path.{_≡_, ap, sym, subst, _∙_}
-use mathlib.Core.List.{List, [], _∷_, _++_, append-assoc, append-nil}
+use Prim.Native.Nat.{ℕ, suc, ◌+◌, ◌<◌, ◌≤◌}
+use mathlib.Core.Path.{◌≡◌, ap, sym, subst, ◌∙◌}
+use mathlib.Core.List.{List, [], ◌∷◌, ◌++◌, append_assoc, append-nil}
 use native.Mathlib.Nat.{add-suc, add-zero, zero-add}
 use native.Mathlib.Numerals.{add-one}
 use native.Mathlib.Omega.{arith}
-use lib.ListN.{length, getD, take, drop, set, length-append, length-drop, take-append-drop}
-use lib.Seq.{length-take-le, drop-cons, set-at, append-snoc}
-use Rattle·defs.specs.Place.{tab}
-use Rattle·theory·specs.specs.Fill.{filled}
-use Rattle·theory·proofs.proofs.Place.{length-tab, tab-snoc, tab-getD}
+use lib.ListN.{length, get_or, take, drop, set, length-append, length-drop, take-append-drop}
+use lib.Seq.{length-take-le, drop-cons, set_at, append_snoc}
+use Rattle.defs.specs.Place.{tab}
+use Rattle.theory.specs.Fill.{filled}
+use Rattle.theory.proofs.Place.{length_tab, tab_snoc, tab_get_d}
 
-head-length : (d : List ℕ) (at : ℕ) (F : ℕ → ℕ) (n : ℕ) → at ≤ length d → length (take at d ++ tab F n) ≡ at + n
-head-length d at F n h = length-append (take at d) (tab F n) ∙ cc (length-take-le at d h, length-tab F n)
+head_length : (d : List ℕ) (at : ℕ) (F : ℕ → ℕ) (n : ℕ) → at ≤ length d → length (take at d ++ tab F n) ≡ at + n
+head_length d at F n h = length-append (take at d) (tab F n) ∙ cc (length-take-le at d h, length_tab F n)
 
-pub filled-none : (d : List ℕ) (at : ℕ) (F : ℕ → ℕ) → d ≡ filled d at F 0
+pub filled_none : (d : List ℕ) (at : ℕ) (F : ℕ → ℕ) → d ≡ filled d at F 0
 unfolding filled tab
-filled-none d at F =
+filled_none d at F =
     sym (ap (λ (k : ℕ). take at d ++ [] ++ drop k d) (add-zero at) ∙ ap (λ (r : List ℕ). r ++ drop at d) (append-nil (take at d)) ∙ take-append-drop at d)
 
 -- a turn of the loop: a store of F j at at + j
-pub filled-more : (d : List ℕ) (at : ℕ) (F : ℕ → ℕ) (j : ℕ) → at + j < length d → set (filled d at F j) (at + j) (F j) ≡ filled d at F (j + 1)
+pub filled_more : (d : List ℕ) (at : ℕ) (F : ℕ → ℕ) (j : ℕ) → at + j < length d → set (filled d at F j) (at + j) (F j) ≡ filled d at F (j + 1)
 unfolding filled
-filled-more d at F j hd =
+filled_more d at F j hd =
     let p : List ℕ = take at d ++ tab F j in
     let rest : List ℕ = drop (suc (at + j)) d in
     ap (λ (r : List ℕ). set (p ++ r) (at + j) (F j)) (drop-cons d (at + j) 0 hd)
-    ∙ set-at p (getD d (at + j) 0) rest (F j) (at + j) (head-length d at F j (omega arith))
-    ∙ sym (append-snoc p (F j) rest)
+    ∙ set_at p (get_or d (at + j) 0) rest (F j) (at + j) (head_length d at F j (omega arith))
+    ∙ sym (append_snoc p (F j) rest)
     ∙ ap (λ (r : List ℕ). r ++ rest)
-    (append-assoc (take at d) (tab F j) (F j ∷ []) ∙ ap (λ (r : List ℕ). take at d ++ r) (sym (tab-snoc F j)))
+    (append_assoc (take at d) (tab F j) (F j ∷ []) ∙ ap (λ (r : List ℕ). take at d ++ r) (sym (tab_snoc F j)))
     ∙ ap (λ (k : ℕ). take at d ++ tab F (suc j) ++ drop k d) (sym (add-suc at j))
     ∙ ap (λ (k : ℕ). take at d ++ tab F k ++ drop (at + k) d) (sym (add-one j))
 
 -- the same from the front on
-pub filled-next : (d : List ℕ) (F : ℕ → ℕ) (i : ℕ) → i < length d → set (filled d 0 F i) i (F i) ≡ filled d 0 F (i + 1)
-filled-next d F i h = subst (λ (k : ℕ). set (filled d 0 F i) k (F i) ≡ filled d 0 F (i + 1)) (zero-add i) (filled-more d 0 F i (omega arith))
+pub filled_next : (d : List ℕ) (F : ℕ → ℕ) (i : ℕ) → i < length d → set (filled d 0 F i) i (F i) ≡ filled d 0 F (i + 1)
+filled_next d F i h = subst (λ (k : ℕ). set (filled d 0 F i) k (F i) ≡ filled d 0 F (i + 1)) (zero-add i) (filled_more d 0 F i (omega arith))
 
-pub length-filled : (d : List ℕ) (at : ℕ) (F : ℕ → ℕ) (n : ℕ) → at + n ≤ length d → length (filled d at F n) ≡ length d
+pub length_filled : (d : List ℕ) (at : ℕ) (F : ℕ → ℕ) (n : ℕ) → at + n ≤ length d → length (filled d at F n) ≡ length d
 unfolding filled
-length-filled d at F n h =
-    length-append (take at d ++ tab F n) (drop (at + n) d) ∙ omega (arith, head-length d at F n (omega arith), length-drop (at + n) d)
+length_filled d at F n h =
+    length-append (take at d ++ tab F n) (drop (at + n) d) ∙ omega (arith, head_length d at F n (omega arith), length-drop (at + n) d)
 
 -- what the loop leaves: new values in front, or a copy of s
-pub filled-front : (d : List ℕ) (F : ℕ → ℕ) (n : ℕ) → filled d 0 F n ≡ tab F n ++ drop n d
+pub filled_front : (d : List ℕ) (F : ℕ → ℕ) (n : ℕ) → filled d 0 F n ≡ tab F n ++ drop n d
 unfolding filled
-filled-front d F n = ap (λ (k : ℕ). tab F n ++ drop k d) (zero-add n)
+filled_front d F n = ap (λ (k : ℕ). tab F n ++ drop k d) (zero-add n)
 
-pub filled-copy : (d s : List ℕ) → filled d 0 (λ i. getD s i 0) (length s) ≡ s ++ drop (length s) d
-filled-copy d s = filled-front d _ (length s) ∙ ap (λ (l : List ℕ). l ++ drop (length s) d) (tab-getD s)
+pub filled_copy : (d s : List ℕ) → filled d 0 (λ i. get_or s i 0) (length s) ≡ s ++ drop (length s) d
+filled_copy d s = filled_front d _ (length s) ∙ ap (λ (l : List ℕ). l ++ drop (length s) d) (tab_get_d s)

@@ -1,23 +1,23 @@
 -- Formula (2) of the paper is what the recursion h computes.
-use Prim.Native.Nat.{ℕ, zero, suc, _+_, _*_, _-_, _%_, _<_}
-use mathlib.Core.Path.{_≡_, refl, ap, sym, _∙_}
-use mathlib.Core.List.{List, [], _∷_}
+use Prim.Native.Nat.{ℕ, zero, suc, ◌+◌, ◌*◌, ◌-◌, ◌%◌, ◌<◌}
+use mathlib.Core.Path.{◌≡◌, refl, ap, sym, ◌∙◌}
+use mathlib.Core.List.{List, [], ◌∷◌}
 use native.Mathlib.Nat.{sub-zero, suc-sub-suc, not-suc-le-zero, zero-mul, one-mul}
-use native.Mathlib.Decide.{decLt}
+use native.Mathlib.Decide.{dec_lt}
 use native.Mathlib.Omega.{arith}
-use lib.ListN.{getD, length}
-use Rattle·defs.specs.Field.{add, mul, pow, binom}
-use Rattle·defs.specs.Place.{Symbols}
-use Rattle·defs.specs.Row.{sum, coefficient}
-use Rattle·theory·specs.specs.Poly.{h}
-use Rattle·theory·proofs.proofs.Field.{bit, sums, 0-add, mul-0, mul-comm, mul-left-comm, one-mul-of-lt}
-use Rattle·theory·proofs.proofs.Sum.{sum-suc, sum-ext, sum-add, sum-zero, sum-scale, sum-from}
+use lib.ListN.{get_or, length}
+use Rattle.defs.specs.Field.{add, mul, pow, binom}
+use Rattle.defs.specs.Place.{Symbols}
+use Rattle.defs.specs.Row.{sum, coefficient}
+use Rattle.theory.specs.Poly.{h}
+use Rattle.theory.proofs.Field.{bit, sums, 0-add, mul_0, mul_comm, mul_left_comm, one_mul_of_lt}
+use Rattle.theory.proofs.Sum.{sum_suc, sum_ext, sum_add, sum_zero, sum_scale, sum_from_lem}
 
-pub binom-small : (n k : ℕ) → n < k → binom n k ≡ 0
+pub binom_small : (n k : ℕ) → n < k → binom n k ≡ 0
 unfolding binom
-binom-small n zero l = absurd (not-suc-le-zero l)
-binom-small zero (suc k) l = refl
-binom-small (suc n) (suc k) l = rw (binom-small n k (omega arith), binom-small n (suc k) (omega arith))
+binom_small n zero l = absurd (not-suc-le-zero l)
+binom_small zero (suc k) l = refl
+binom_small (suc n) (suc k) l = rw (binom_small n k (omega arith), binom_small n (suc k) (omega arith))
 
 -- the parity of a sum, times x
 parity : (a b x : ℕ) → (a + b) % 2 * x ≡ add (a % 2 * x) (b % 2 * x)
@@ -30,62 +30,62 @@ parity a b x =
 
 module _ (m P : ℕ) where
   scaled : (n c x : ℕ) → n % 2 * mul m c x ≡ mul m c (n % 2 * x)
-  scaled n c x = bit (λ p. p * mul m c x ≡ mul m c (p * x)) (simp (zero-mul, mul-0)) (simp one-mul) n
+  scaled n c x = bit (λ p. p * mul m c x ≡ mul m c (p * x)) (simp (zero-mul, mul_0)) (simp one-mul) n
 
   -- the term of formula (2) at i
   abbrev term : List ℕ → ℕ → ℕ → ℕ
-  term f j i = binom i j % 2 * mul m (getD f i 0) (pow m P (i - j))
+  term f j i = binom i j % 2 * mul m (get_or f i 0) (pow m P (i - j))
 
   pow-suc : (n : ℕ) → pow m P (suc n) ≡ mul m P (pow m P n)
   unfolding pow
   pow-suc n = refl
 
-  term-zero : (f : List ℕ) (c i : ℕ) → term (c ∷ f) 0 (suc i) ≡ mul m P (term f 0 i)
+  term_zero : (f : List ℕ) (c i : ℕ) → term (c ∷ f) 0 (suc i) ≡ mul m P (term f 0 i)
   unfolding binom
-  term-zero f c i = simp sub-zero (rw (pow-suc, mul-left-comm, scaled 1 P))
+  term_zero f c i = simp sub-zero (rw (pow-suc, mul_left_comm, scaled 1 P))
 
-  term-high : (j i x : ℕ) → Dec (j < i)
+  term_high : (j i x : ℕ) → Dec (j < i)
       → binom i (suc j) % 2 * mul m x (pow m P (i - j)) ≡ mul m P (binom i (suc j) % 2 * mul m x (pow m P (i - suc j)))
-  term-high j i x (yes l) =
+  term_high j i x (yes l) =
       let e : i - j ≡ suc (i - suc j) = omega arith in
-      rw (e, pow-suc, mul-left-comm, scaled (binom i (suc j)) P)
-  term-high j i x (no l) = rw (binom-small i (suc j) (omega arith)) (simp (zero-mul, mul-0))
+      rw (e, pow-suc, mul_left_comm, scaled (binom i (suc j)) P)
+  term_high j i x (no l) = rw (binom_small i (suc j) (omega arith)) (simp (zero-mul, mul_0))
 
-  term-suc : (f : List ℕ) (c j i : ℕ) → term (c ∷ f) (suc j) (suc i) ≡ add (term f j i) (mul m P (term f (suc j) i))
+  term_suc : (f : List ℕ) (c j i : ℕ) → term (c ∷ f) (suc j) (suc i) ≡ add (term f j i) (mul m P (term f (suc j) i))
   unfolding binom
-  term-suc f c j i = simp suc-sub-suc (parity _ _ _ ∙ ap (add (term f j i)) (term-high j i _ (decLt j i)))
+  term_suc f c j i = simp suc-sub-suc (parity _ _ _ ∙ ap (add (term f j i)) (term_high j i _ (dec_lt j i)))
 
-  first-zero : (f : List ℕ) (c : ℕ) → Symbols m (c ∷ f) → term (c ∷ f) 0 0 ≡ c
+  first_zero : (f : List ℕ) (c : ℕ) → Symbols m (c ∷ f) → term (c ∷ f) 0 0 ≡ c
   unfolding binom pow
-  first-zero f c o = one-mul _ ∙ mul-comm m c 1 ∙ one-mul-of-lt m c (o 0)
+  first_zero f c o = one-mul _ ∙ mul_comm m c 1 ∙ one_mul_of_lt m c (o 0)
 
-  first-suc : (f : List ℕ) (c j : ℕ) → term (c ∷ f) (suc j) 0 ≡ 0
+  first_suc : (f : List ℕ) (c j : ℕ) → term (c ∷ f) (suc j) 0 ≡ 0
   unfolding binom
-  first-suc f c j = zero-mul _
+  first_suc f c j = zero-mul _
 
   whole : (j : ℕ) (f : List ℕ) → Symbols m f → sum (length f) (term f j) ≡ h m P j f
   unfolding h
-  whole j [] o = sum-zero 0 _ (λ i l. absurd (not-suc-le-zero l))
+  whole j [] o = sum_zero 0 _ (λ i l. absurd (not-suc-le-zero l))
   whole zero (c ∷ f) o =
       rw (
-        sum-suc,
-        first-zero f c o,
-        sum-ext (length f) _ _ (λ i l. term-zero f c i),
-        sum-scale m (length f) P (term f 0),
+        sum_suc,
+        first_zero f c o,
+        sum_ext (length f) _ _ (λ i l. term_zero f c i),
+        sum_scale m (length f) P (term f 0),
         whole zero f (λ i. o (suc i)),
       )
   whole (suc j) (c ∷ f) o =
       rw (
-        sum-suc,
-        first-suc f c j,
+        sum_suc,
+        first_suc f c j,
         0-add,
-        sum-ext (length f) _ _ (λ i l. term-suc f c j i),
-        sum-add (length f) (term f j) (λ i. mul m P (term f (suc j) i)),
-        sum-scale m (length f) P (term f (suc j)),
+        sum_ext (length f) _ _ (λ i l. term_suc f c j i),
+        sum_add (length f) (term f j) (λ i. mul m P (term f (suc j) i)),
+        sum_scale m (length f) P (term f (suc j)),
         whole j f (λ i. o (suc i)),
         whole (suc j) f (λ i. o (suc i)),
       )
 
-  pub coefficient-h : (j : ℕ) (f : List ℕ) → Symbols m f → coefficient m f P j ≡ h m P j f
+  pub coefficient_h : (j : ℕ) (f : List ℕ) → Symbols m f → coefficient m f P j ≡ h m P j f
   unfolding coefficient
-  coefficient-h j f o = sym (sum-from j (length f) _ (λ i l. rw (binom-small i j l) (zero-mul _))) ∙ whole j f o
+  coefficient_h j f o = sym (sum_from_lem j (length f) _ (λ i l. rw (binom_small i j l) (zero-mul _))) ∙ whole j f o

@@ -1,74 +1,74 @@
 -- Long division from the top: where a polynomial is f·g, the remainder at turn i is the product of g with the part of f below i.
-use Prim.Native.Nat.{ℕ, zero, suc, _+_, _-_, _^_, _<_}
-use mathlib.Core.Path.{_≡_, refl, ap, sym, subst, _∙_}
-use mathlib.Core.List.{List, [], _∷_}
-use native.Mathlib.Nat.{not-suc-le-zero, le-of-suc-le-suc, suc-add, zero-add}
-use native.Mathlib.Decide.{decLt}
+use Prim.Native.Nat.{ℕ, zero, suc, ◌+◌, ◌-◌, ◌^◌, ◌<◌}
+use mathlib.Core.Path.{◌≡◌, refl, ap, sym, subst, ◌∙◌}
+use mathlib.Core.List.{List, [], ◌∷◌}
+use native.Mathlib.Nat.{not-suc-le-zero, le_of_suc-le-suc, suc-add, zero-add}
+use native.Mathlib.Decide.{dec_lt}
 use native.Mathlib.Omega.{arith}
-use lib.ListN.{length, getD, take, length-take}
-use lib.Seq.{take-all}
-use Rattle·defs.specs.Field.{add, mul}
-use Rattle·theory·specs.specs.Poly.{pmul}
-use Rattle·theory·specs.specs.Vanish.{Deg, Same}
-use Rattle·theory·specs.specs.Quotient.{Remains}
-use Rattle·theory·proofs.proofs.Field.{sums, ring, 0-add, add-0, mul-assoc, mul-comm, one-mul-of-lt}
-use Rattle·theory·proofs.proofs.Multiply.{deg-length, pmul-head, pmul-tail, pmul-deg}
+use lib.ListN.{length, get_or, take, length-take}
+use lib.Seq.{take_all}
+use Rattle.defs.specs.Field.{add, mul}
+use Rattle.theory.specs.Poly.{pmul}
+use Rattle.theory.specs.Vanish.{Deg, Same}
+use Rattle.theory.specs.Quotient.{Remains}
+use Rattle.theory.proofs.Field.{sums, ring, 0-add, add_0, mul_assoc, mul_comm, one_mul_of_lt}
+use Rattle.theory.proofs.Multiply.{deg_length, pmul_head, pmul_tail, pmul_deg}
 
 module _ (m : ℕ) (g : List ℕ) where
-  single : (a y : ℕ) → getD (pmul m (a ∷ []) g) y 0 ≡ mul m a (getD g y 0)
+  single : (a y : ℕ) → get_or (pmul m (a ∷ []) g) y 0 ≡ mul m a (get_or g y 0)
   unfolding pmul
-  single a zero = pmul-head m a [] g
-  single a (suc y) = pmul-tail m a [] g y ∙ add-0 _
+  single a zero = pmul_head m a [] g
+  single a (suc y) = pmul_tail m a [] g y ∙ add_0 _
 
   -- one coefficient of f more does not count below it
-  below : (f : List ℕ) (i x : ℕ) → x < i → getD (pmul m (take (suc i) f) g) x 0 ≡ getD (pmul m (take i f) g) x 0
+  below : (f : List ℕ) (i x : ℕ) → x < i → get_or (pmul m (take (suc i) f) g) x 0 ≡ get_or (pmul m (take i f) g) x 0
   below f zero x l = absurd (not-suc-le-zero l)
   below [] (suc i) x l = refl
-  below (a ∷ f) (suc i) zero l = pmul-head m a (take (suc i) f) g ∙ sym (pmul-head m a (take i f) g)
+  below (a ∷ f) (suc i) zero l = pmul_head m a (take (suc i) f) g ∙ sym (pmul_head m a (take i f) g)
   below (a ∷ f) (suc i) (suc x) l =
-      pmul-tail m a (take (suc i) f) g x ∙ ap (add (mul m a (getD g (suc x) 0))) (below f i x (le-of-suc-le-suc l))
-      ∙ sym (pmul-tail m a (take i f) g x)
+      pmul_tail m a (take (suc i) f) g x ∙ ap (add (mul m a (get_or g (suc x) 0))) (below f i x (le_of_suc-le-suc l))
+      ∙ sym (pmul_tail m a (take i f) g x)
 
   step : (a b c d e p q : ℕ) → p ≡ add a b → q ≡ add a d → b ≡ add d (mul m c e) → p ≡ add q (mul m c e)
   step a b c d e p q u v z = rw (u, v, z) (simp sums)
 
   -- and from its place on g counts once more
   above : (f : List ℕ) (i y : ℕ)
-      → getD (pmul m (take (suc i) f) g) (i + y) 0 ≡ add (getD (pmul m (take i f) g) (i + y) 0) (mul m (getD f i 0) (getD g y 0))
+      → get_or (pmul m (take (suc i) f) g) (i + y) 0 ≡ add (get_or (pmul m (take i f) g) (i + y) 0) (mul m (get_or f i 0) (get_or g y 0))
   unfolding pmul
   above [] zero y = simp ring
   above [] (suc i) y = simp ring
   above (a ∷ f) zero y = rw zero-add (single a y ∙ sym (0-add _))
   above (a ∷ f) (suc i) y =
-      rw suc-add (step _ _ (getD f i 0) _ _ _ _ (pmul-tail m a (take (suc i) f) g (i + y)) (pmul-tail m a (take i f) g (i + y)) (above f i y))
+      rw suc-add (step _ _ (get_or f i 0) _ _ _ _ (pmul_tail m a (take (suc i) f) g (i + y)) (pmul_tail m a (take i f) g (i + y)) (above f i y))
 
   module _ (f : List ℕ) where
-    pub remains-first : (Q : List ℕ) (k : ℕ) → length f ≡ k → Same Q (pmul m f g) → Remains m f g k (λ x. getD Q x 0)
-    remains-first Q k e s x = rw (take-all k f (omega arith)) (s x)
+    pub remains_first : (Q : List ℕ) (k : ℕ) → length f ≡ k → Same Q (pmul m f g) → Remains m f g k (λ x. get_or Q x 0)
+    remains_first Q k e s x = rw (take_all k f (omega arith)) (s x)
 
     -- the top of the remainder, where d is the degree of g
-    pub remains-top : (d i : ℕ) (rem : ℕ → ℕ) → Deg (suc d) g → Remains m f g (suc i) rem → rem (i + d) ≡ mul m (getD f i 0) (getD g d 0)
-    remains-top d i rem v c =
+    pub remains_top : (d i : ℕ) (rem : ℕ → ℕ) → Deg (suc d) g → Remains m f g (suc i) rem → rem (i + d) ≡ mul m (get_or f i 0) (get_or g d 0)
+    remains_top d i rem v c =
         c (i + d) ∙ above f i d
-        ∙ rw (pmul-deg m i d (take i f) g (deg-length i (take i f) (omega (arith, length-take i f))) v (i + d) (omega arith)) (0-add _)
+        ∙ rw (pmul_deg m i d (take i f) g (deg_length i (take i f) (omega (arith, length-take i f))) v (i + d) (omega arith)) (0-add _)
 
     -- what divides it by g's top coefficient finds the coefficient of f
-    pub remains-found : (d i v : ℕ) (rem : ℕ → ℕ) → Deg (suc d) g → Remains m f g (suc i) rem → getD f i 0 < 2 ^ m → mul m (getD g d 0) v ≡ 1
-        → mul m (rem (i + d)) v ≡ getD f i 0
-    remains-found d i v rem deg c o e =
-        ap (λ (x : ℕ). mul m x v) (remains-top d i rem deg c) ∙ mul-assoc m _ _ v ∙ ap (mul m (getD f i 0)) e ∙ mul-comm m _ 1 ∙ one-mul-of-lt m _ o
+    pub remains_found : (d i v : ℕ) (rem : ℕ → ℕ) → Deg (suc d) g → Remains m f g (suc i) rem → get_or f i 0 < 2 ^ m → mul m (get_or g d 0) v ≡ 1
+        → mul m (rem (i + d)) v ≡ get_or f i 0
+    remains_found d i v rem deg c o e =
+        ap (λ (x : ℕ). mul m x v) (remains_top d i rem deg c) ∙ mul_assoc m _ _ v ∙ ap (mul m (get_or f i 0)) e ∙ mul_comm m _ 1 ∙ one_mul_of_lt m _ o
 
     again : (a b c d : ℕ) → a ≡ add b c → b ≡ add d c → a ≡ d
-    again a b c d e e′ = rw (e, e′) (simp sums)
+    again a b c d e e' = rw (e, e') (simp sums)
 
     -- a turn: the coefficient times g is taken away, i places up
-    pub remains-turn : (i : ℕ) (rem rem′ : ℕ → ℕ) → Remains m f g (suc i) rem
-        → ((x : ℕ) → x < i → rem′ x ≡ rem x) → ((y : ℕ) → rem′ (i + y) ≡ add (rem (i + y)) (mul m (getD f i 0) (getD g y 0))) → Remains m f g i rem′
-    remains-turn i rem rem′ c u v x = go (decLt x i)
+    pub remains_turn : (i : ℕ) (rem rem' : ℕ → ℕ) → Remains m f g (suc i) rem
+        → ((x : ℕ) → x < i → rem' x ≡ rem x) → ((y : ℕ) → rem' (i + y) ≡ add (rem (i + y)) (mul m (get_or f i 0) (get_or g y 0))) → Remains m f g i rem'
+    remains_turn i rem rem' c u v x = go (dec_lt x i)
       where
-        go : Dec (x < i) → rem′ x ≡ getD (pmul m (take i f) g) x 0
+        go : Dec (x < i) → rem' x ≡ get_or (pmul m (take i f) g) x 0
         go (yes l) = u x l ∙ c x ∙ below f i x l
         go (no l) =
             let e : i + (x - i) ≡ x = omega arith in
-            subst (λ (z : ℕ). rem′ z ≡ getD (pmul m (take i f) g) z 0) e
+            subst (λ (z : ℕ). rem' z ≡ get_or (pmul m (take i f) g) z 0) e
             (again _ _ _ _ (v (x - i)) (c (i + (x - i)) ∙ above f i (x - i)))

@@ -1,6 +1,5 @@
 -- One bits of numbers.
-use Prim.Native.Nat.{ℕ, _/_, _%_, _^_}
-use mathlib.Core.Path.{_≡_}
+use Rattle.std.specs.Prelude.{ℕ, ◌/◌, ◌%◌, ◌^◌, ◌≡◌}
 
 -- every one bit of b is also a one bit of a
 unfoldable pub BitsWithin : ℕ → ℕ → Type 0

@@ -1,12 +1,10 @@
 -- The key equation of the decoder, and its solutions within given degrees.
-use Prim.Native.Nat.{ℕ, suc, _+_, _-_, _<_}
-use mathlib.Core.Path.{_≡_}
-use mathlib.Core.List.{List}
-use Rattle·defs.specs.Field.{add, mul}
-use Rattle·defs.specs.Place.{Symbols}
-use Rattle·defs.specs.Row.{sum}
-use Rattle·theory·specs.specs.Poly.{h}
-use Rattle·theory·specs.specs.Vanish.{Deg}
+use Rattle.std.specs.Prelude.{ℕ, suc, ◌+◌, ◌-◌, ◌<◌, ◌≡◌, List}
+use Rattle.defs.specs.Field.{add, mul}
+use Rattle.defs.specs.Place.{Symbols}
+use Rattle.defs.specs.Row.{sum}
+use Rattle.theory.specs.Poly.{h}
+use Rattle.theory.specs.Vanish.{Deg}
 
 -- the sum of F a · G (j - a) over a ≤ j
 unfoldable pub conv : ℕ → ℕ → (ℕ → ℕ) → (ℕ → ℕ) → ℕ

@@ -1,7 +1,6 @@
 -- Polynomials as lists of coefficients, lowest power first, and their Hasse coefficients at a point.
-use Prim.Native.Nat.{ℕ, zero, suc}
-use mathlib.Core.List.{List, [], _∷_}
-use Rattle·defs.specs.Field.{add, mul}
+use Rattle.std.specs.Prelude.{ℕ, zero, suc, List, [], ◌∷◌}
+use Rattle.defs.specs.Field.{add, mul}
 
 -- h m P j f: the coefficient of (x - P)^j in f. By x = P + (x - P): c + x·f has the coefficients of P·f and those of f one place up
 unfoldable pub h : ℕ → ℕ → ℕ → List ℕ → ℕ

@@ -1,1 +1,3 @@
+#![tactic(auto)]
+
 // No function: the laws of the definitions are in proofs/.

@@ -1,185 +1,185 @@
 -- The ways out of the call that turns a slip.
-use Prim.Native.Nat.{ℕ, _+_, _*_, _<_, _≤_}
+use Prim.Native.Nat.{ℕ, ◌+◌, ◌*◌, ◌<◌, ◌≤◌}
 use mathlib.Core.Bool.{Bool, true, false, not}
-use mathlib.Core.Path.{_≡_, refl, sym, _∙_}
+use mathlib.Core.Path.{◌≡◌, refl, sym, ◌∙◌}
 use mathlib.Core.List.{List}
 use native.Mathlib.Omega.{arith}
 use lib.Dec.{eqb, ltb}
 use lib.ListN.{length, take}
 use borrow.Author.Tests.{lt-ltb, le-ltb, eq-eqb, eqb-true, not-false}
-use Rattle·defs.specs.Refusal.{refuse, andThen, answer, kept}
-use Rattle·defs.specs.Limits.{longest, Within}
-use Rattle·defs.specs.Slip.{isEdition, layoutOf, slipSize, longestSlip, slipOf, editionIn, widthIn, depthIn, countIn, dimensionIn, pointsIn, rowIn}
-use Rattle·defs.specs.Write.{writeVerdict, Written}
-use Rattle·defs.specs.Read.{firstVerdictOf, firstVerdict, headVerdict, readVerdict, reading, Read}
-use Rattle·defs.specs.Turn.{turned, turnVerdict, Turned}
-use Rattle·defs.specs.declared.Layout.{Layout}
-use Rattle·defs.specs.declared.Refusal.{Refusal}
-use Rattle·defs.specs.declared.Refusal.the-variants.{Length, SlipShort, Edition, RowLong}
-use Rattle·defs.specs.declared.Verdict.{Verdict}
-use Rattle·defs.specs.declared.Verdict.the-variants.{Fine, Refused}
-use Rattle·defs.specs.declared.Answer.{Answer}
-use Rattle·defs.specs.declared.Answer.the-variants.{Done, Refused as No}
-use Rattle·defs.specs.declared.SlipRead.{SlipRead}
-use Rattle·theory.proofs.Place.{length-tab}
-use Rattle·theory.proofs.Limits.{limits-within, count-small}
-use Rattle·theory.proofs.Checks.{symbols-fine}
-use Rattle·theory.proofs.Verdict.{refuse-fine}
-use Rattle·slip.proofs.Layouts.{laid, size-top}
-use Rattle·slip.proofs.Reader.{one-edition}
-use Rattle·slip.proofs.Taken.{limits, read-sound, length-points, length-row, row-low}
-use Rattle·slip.proofs.Answered.{read-no, read-fine, read-numbers, points-in, row-in, points-fit, row-fits}
-use Rattle·turn·specs.specs.Edition.{editionVerdict}
+use Rattle.defs.specs.Refusal.{refuse, and_then, answer, kept}
+use Rattle.defs.specs.Limits.{longest, Within}
+use Rattle.defs.specs.Slip.{is_edition, layout_of, slip_size, longest_slip, slip_of, edition_in, width_in, depth_in, count_in, dimension_in, points_in, row_in}
+use Rattle.defs.specs.Write.{write_verdict, Written}
+use Rattle.defs.specs.Read.{first_verdict_of, first_verdict, head_verdict, read_verdict, reading, Read}
+use Rattle.defs.specs.Turn.{turned, turn_verdict, Turned}
+use Rattle.defs.specs.declared.Layout.{Layout}
+use Rattle.defs.specs.declared.Refusal.{Refusal}
+use Rattle.defs.specs.declared.Refusal.TheVariants.{Length, SlipShort, Edition, RowLong}
+use Rattle.defs.specs.declared.Verdict.{Verdict}
+use Rattle.defs.specs.declared.Verdict.TheVariants.{Fine, Refused}
+use Rattle.defs.specs.declared.Answer.{Answer}
+use Rattle.defs.specs.declared.Answer.TheVariants.{Done, Refused as No}
+use Rattle.defs.specs.declared.SlipRead.{SlipRead}
+use Rattle.theory.proofs.Place.{length_tab}
+use Rattle.theory.proofs.Limits.{limits_within, count_small}
+use Rattle.theory.proofs.Checks.{symbols_fine}
+use Rattle.theory.proofs.Verdict.{refuse_fine}
+use Rattle.slip.proofs.Layouts.{laid, size_top}
+use Rattle.slip.proofs.Reader.{one_edition}
+use Rattle.slip.proofs.Taken.{limits, read_sound, length_points, length_row, row_low}
+use Rattle.slip.proofs.Answered.{read_no, read_fine, read_numbers, points_inside, row_inside, points_fit, row_fits}
+use Rattle.turn.specs.Edition.{edition_verdict}
 
 -- ---- the edition
 
 module _ (from : ℕ) (slip : List ℕ) where
-  pub too-short : length slip < 3 → Refused SlipShort ≡ editionVerdict from slip
-  unfolding editionVerdict refuse
-  too-short l = rw (lt-ltb (length slip) 3 l)
+  pub too_short : length slip < 3 → Refused SlipShort ≡ edition_verdict from slip
+  unfolding edition_verdict refuse
+  too_short l = rw (lt-ltb (length slip) 3 l)
 
-  pub another : 3 ≤ length slip → (e : ℕ) → e ≡ editionIn slip → eqb from e ≡ false → Refused Edition ≡ editionVerdict from slip
-  unfolding editionVerdict refuse
+  pub another : 3 ≤ length slip → (e : ℕ) → e ≡ edition_in slip → eqb from e ≡ false → Refused Edition ≡ edition_verdict from slip
+  unfolding edition_verdict refuse
   another l e i n = rw (le-ltb (length slip) 3 l, ← i, n)
 
-  pub this-one : 3 ≤ length slip → (e : ℕ) → e ≡ editionIn slip → eqb from e ≡ true → Fine ≡ editionVerdict from slip
-  unfolding editionVerdict refuse
-  this-one l e i n = rw (le-ltb (length slip) 3 l, ← i, n)
+  pub this_one : 3 ≤ length slip → (e : ℕ) → e ≡ edition_in slip → eqb from e ≡ true → Fine ≡ edition_verdict from slip
+  unfolding edition_verdict refuse
+  this_one l e i n = rw (le-ltb (length slip) 3 l, ← i, n)
 
   -- the first checks of such a slip are the reader's
-  pub own-first : isEdition from ≡ true → editionVerdict from slip ≡ Fine → firstVerdictOf (eqb from) slip ≡ firstVerdict slip
-  unfolding editionVerdict
-  own-first known f =
-      let is = not-false _ (refuse-fine _ _ _ (refuse-fine (ltb (length slip) 3) _ _ f .1) .0) in
-      one-edition from slip known (sym (eqb-true from (editionIn slip) is))
+  pub own_first : is_edition from ≡ true → edition_verdict from slip ≡ Fine → first_verdict_of (eqb from) slip ≡ first_verdict slip
+  unfolding edition_verdict
+  own_first known f =
+      let is = not-false _ (refuse_fine _ _ _ (refuse_fine (ltb (length slip) 3) _ _ f).1).0 in
+      one_edition from slip known (sym (eqb-true from (edition_in slip) is))
 
 -- ---- the size
 
-pub length-turned : (to : ℕ) (slip : List ℕ) → length (turned to slip) ≡ slipSize (layoutOf to) (widthIn slip) (length (pointsIn slip) + length (rowIn slip))
-unfolding turned slipOf
-length-turned to slip = length-tab _ _
+pub length_turned : (to : ℕ) (slip : List ℕ) → length (turned to slip) ≡ slip_size (layout_of to) (width_in slip) (length (points_in slip) + length (row_in slip))
+unfolding turned slip_of
+length_turned to slip = length_tab _ _
 
 -- a slip that is read becomes one that is no longer than the longest
-pub turned-top : (to : ℕ) (slip : List ℕ) → readVerdict slip longest longest ≡ Fine → length (turned to slip) ≤ longestSlip
-turned-top to slip e =
-    let n = read-sound slip longest longest e .numbers in
-    rw (length-turned to slip)
-    (size-top (layoutOf to) (laid to) (widthIn slip) _ (n .width) (omega (arith, length-points slip, length-row slip, count-small n, n .row-top)))
+pub turned_top : (to : ℕ) (slip : List ℕ) → read_verdict slip longest longest ≡ Fine → length (turned to slip) ≤ longest_slip
+turned_top to slip e =
+    let n = (read_sound slip longest longest e).numbers in
+    rw (length_turned to slip)
+    (size_top (layout_of to) (laid to) (width_in slip) _ n.width (omega (arith, length_points slip, length_row slip, count_small n, n.row_top)))
 
 -- ---- the checks
 
 -- two checks, and what stands behind them
-two-checks : (a b : Bool) (x y : Refusal) (v : Verdict) → andThen (refuse a x (refuse b y Fine)) v ≡ refuse a x (refuse b y v)
-unfolding refuse andThen
-two-checks true b x y v = refl
-two-checks false true x y v = refl
-two-checks false false x y v = refl
+two_checks : (a b : Bool) (x y : Refusal) (v : Verdict) → and_then (refuse a x (refuse b y Fine)) v ≡ refuse a x (refuse b y v)
+unfolding refuse and_then
+two_checks true b x y v = refl
+two_checks false true x y v = refl
+two_checks false false x y v = refl
 
 module _ (from to : ℕ) (slip : List ℕ) (size : ℕ) where
   -- what stands behind the reader's checks
   abbrev behind : Verdict
-  behind = refuse (ltb (layoutOf to .top) (depthIn slip * countIn slip)) RowLong (refuse (ltb size (length (turned to slip))) Length Fine)
+  behind = refuse (ltb (layout_of to).top (depth_in slip * count_in slip)) RowLong (refuse (ltb size (length (turned to slip))) Length Fine)
 
-  pub refused-edition : (x : Refusal) → editionVerdict from slip ≡ Refused x → turnVerdict from to slip size ≡ Refused x
-  unfolding turnVerdict firstVerdictOf editionVerdict andThen
-  refused-edition x e = rw (← two-checks (ltb (length slip) 3) (not (eqb from (editionIn slip))) SlipShort Edition _, e)
+  pub refused_edition : (x : Refusal) → edition_verdict from slip ≡ Refused x → turn_verdict from to slip size ≡ Refused x
+  unfolding turn_verdict first_verdict_of edition_verdict and_then
+  refused_edition x e = rw (← two_checks (ltb (length slip) 3) (not (eqb from (edition_in slip))) SlipShort Edition _, e)
 
-  module _ (own : firstVerdictOf (eqb from) slip ≡ firstVerdict slip) where
+  module _ (own : first_verdict_of (eqb from) slip ≡ first_verdict slip) where
     -- the reader's checks begin with those
-    again : (v w : Verdict) → firstVerdict slip ≡ v → andThen v (andThen (readVerdict slip longest longest) w) ≡ andThen (readVerdict slip longest longest) w
-    unfolding readVerdict headVerdict andThen
+    again : (v w : Verdict) → first_verdict slip ≡ v → and_then v (and_then (read_verdict slip longest longest) w) ≡ and_then (read_verdict slip longest longest) w
+    unfolding read_verdict head_verdict and_then
     again Fine w e = refl
     again (Refused x) w e = rw e
 
-    by-reader : turnVerdict from to slip size ≡ andThen (readVerdict slip longest longest) behind
-    unfolding turnVerdict
-    by-reader = rw own (again (firstVerdict slip) behind refl)
+    by_reader : turn_verdict from to slip size ≡ and_then (read_verdict slip longest longest) behind
+    unfolding turn_verdict
+    by_reader = rw own (again (first_verdict slip) behind refl)
 
-    pub refused-reader : (x : Refusal) → readVerdict slip longest longest ≡ Refused x → turnVerdict from to slip size ≡ Refused x
-    unfolding andThen
-    refused-reader x e = by-reader ∙ rw e
+    pub refused_reader : (x : Refusal) → read_verdict slip longest longest ≡ Refused x → turn_verdict from to slip size ≡ Refused x
+    unfolding and_then
+    refused_reader x e = by_reader ∙ rw e
 
-    module _ (e : readVerdict slip longest longest ≡ Fine) where
-      pub by-room : turnVerdict from to slip size ≡ behind
-      unfolding andThen
-      by-room = by-reader ∙ rw e
+    module _ (e : read_verdict slip longest longest ≡ Fine) where
+      pub by_room : turn_verdict from to slip size ≡ behind
+      unfolding and_then
+      by_room = by_reader ∙ rw e
 
-      pub refused-row : layoutOf to .top < depthIn slip * countIn slip → turnVerdict from to slip size ≡ Refused RowLong
+      pub refused_row : (layout_of to).top < depth_in slip * count_in slip → turn_verdict from to slip size ≡ Refused RowLong
       unfolding refuse
-      refused-row l = by-room ∙ rw (lt-ltb (layoutOf to .top) (depthIn slip * countIn slip) l)
+      refused_row l = by_room ∙ rw (lt-ltb (layout_of to).top (depth_in slip * count_in slip) l)
 
       -- a row that fits is judged as its writer judges it
-      module _ (wanted : isEdition to ≡ true) (l : depthIn slip * countIn slip ≤ layoutOf to .top) where
+      module _ (wanted : is_edition to ≡ true) (l : depth_in slip * count_in slip ≤ (layout_of to).top) where
         abbrev written : Verdict
-        written = writeVerdict to (widthIn slip) (depthIn slip) (dimensionIn slip) (pointsIn slip) (rowIn slip) size
+        written = write_verdict to (width_in slip) (depth_in slip) (dimension_in slip) (points_in slip) (row_in slip) size
 
-        within : Within (layoutOf to .top) (widthIn slip) (depthIn slip) (dimensionIn slip) (pointsIn slip)
-        within = limits-within _ _ _ _ (pointsIn slip) (limits slip longest longest e) (rw (length-points slip) l)
+        within : Within (layout_of to).top (width_in slip) (depth_in slip) (dimension_in slip) (points_in slip)
+        within = limits_within _ _ _ _ (points_in slip) (limits slip longest longest e) (rw (length_points slip) l)
 
-        row-is : length (rowIn slip) ≡ depthIn slip * length (pointsIn slip)
-        row-is = length-row slip ∙ rw (length-points slip)
+        row_is : length (row_in slip) ≡ depth_in slip * length (points_in slip)
+        row_is = length_row slip ∙ rw (length_points slip)
 
-        pub by-writer : turnVerdict from to slip size ≡ written
-        unfolding writeVerdict andThen refuse
-        by-writer =
-            by-room
+        pub by_writer : turn_verdict from to slip size ≡ written
+        unfolding write_verdict and_then refuse
+        by_writer =
+            by_room
             ∙ rw (
-              le-ltb (layoutOf to .top) (depthIn slip * countIn slip) l,
-              length-turned to slip,
+              le-ltb (layout_of to).top (depth_in slip * count_in slip) l,
+              length_turned to slip,
               wanted,
               within,
-              eq-eqb (length (rowIn slip)) (depthIn slip * length (pointsIn slip)) row-is,
-              symbols-fine (widthIn slip) (rowIn slip) (row-low slip),
+              eq-eqb (length (row_in slip)) (depth_in slip * length (points_in slip)) row_is,
+              symbols_fine (width_in slip) (row_in slip) (row_low slip),
             )
 
 -- ---- the ways out of the call
 
-pub turned-refused : (from to : ℕ) (slip bytes : List ℕ) (x : Refusal) → turnVerdict from to slip (length bytes) ≡ Refused x → Turned from to slip bytes (No x) bytes
+pub turned_refused : (from to : ℕ) (slip bytes : List ℕ) (x : Refusal) → turn_verdict from to slip (length bytes) ≡ Refused x → Turned from to slip bytes (No x) bytes
 unfolding answer kept
-turned-refused from to slip bytes x e = record { answers = rw e; leaves = rw e }
+turned_refused from to slip bytes x e = record { answers = rw e; leaves = rw e }
 
 -- two buffers of the longest row, and what the reader left in them
-module _ {slip points row points′ row′ : List ℕ} {s : SlipRead} (points-room : length points ≡ longest) (row-room : length row ≡ longest)
-    (took : Read slip points row s points′ row′) where
-  roomy : readVerdict slip (length points) (length row) ≡ readVerdict slip longest longest
-  roomy = rw (points-room, row-room)
+module _ {slip points row points' row' : List ℕ} {s : SlipRead} (points_room : length points ≡ longest) (row_room : length row ≡ longest)
+    (took : Read slip points row s points' row') where
+  roomy : read_verdict slip (length points) (length row) ≡ read_verdict slip longest longest
+  roomy = rw (points_room, row_room)
 
-  module _ {from to : ℕ} (bytes : List ℕ) (own : firstVerdictOf (eqb from) slip ≡ firstVerdict slip) where
-    pub turned-no : (x : Refusal) → s .answer ≡ No x → Turned from to slip bytes (No x) bytes
-    turned-no x e = turned-refused from to slip bytes x (refused-reader from to slip (length bytes) own x (sym roomy ∙ read-no took x e))
+  module _ {from to : ℕ} (bytes : List ℕ) (own : first_verdict_of (eqb from) slip ≡ first_verdict slip) where
+    pub turned_no : (x : Refusal) → s.answer ≡ No x → Turned from to slip bytes (No x) bytes
+    turned_no x e = turned_refused from to slip bytes x (refused_reader from to slip (length bytes) own x (sym roomy ∙ read_no took x e))
 
-  module _ (d : ℕ) (done : s .answer ≡ Done d) where
-    fine : readVerdict slip longest longest ≡ Fine
-    fine = sym roomy ∙ read-fine took d done
+  module _ (d : ℕ) (done : s.answer ≡ Done d) where
+    fine : read_verdict slip longest longest ≡ Fine
+    fine = sym roomy ∙ read_fine took d done
 
     is : s ≡ reading Fine slip
-    is = read-numbers took d done
+    is = read_numbers took d done
 
-    pub row-small : s .r * s .count ≤ longest
+    pub row_small : s.r * s.count ≤ longest
     unfolding reading
-    row-small = rw is (read-sound slip longest longest fine .numbers .row-top)
+    row_small = rw is (read_sound slip longest longest fine).numbers.row_top
 
-    pub points-lent : s .count ≤ length points′
+    pub points_lent : s.count ≤ length points'
     unfolding reading
-    points-lent = rw is (points-fit took d done)
+    points_lent = rw is (points_fit took d done)
 
-    pub row-lent : s .r * s .count ≤ length row′
+    pub row_lent : s.r * s.count ≤ length row'
     unfolding reading
-    row-lent = rw is (row-fits took d done)
+    row_lent = rw is (row_fits took d done)
 
     -- L is the layout of the edition to
-    module _ {from to : ℕ} {bytes : List ℕ} (own : firstVerdictOf (eqb from) slip ≡ firstVerdict slip) (L : Layout) (laid : L ≡ layoutOf to) where
-      pub turned-long : L .top < s .r * s .count → Turned from to slip bytes (No RowLong) bytes
+    module _ {from to : ℕ} {bytes : List ℕ} (own : first_verdict_of (eqb from) slip ≡ first_verdict slip) (L : Layout) (laid : L ≡ layout_of to) where
+      pub turned_long : L.top < s.r * s.count → Turned from to slip bytes (No RowLong) bytes
       unfolding reading
-      turned-long l =
-          let l′ : layoutOf to .top < depthIn slip * countIn slip = rw (laid, is) at l in
-          turned-refused from to slip bytes RowLong (refused-row from to slip (length bytes) own fine l′)
+      turned_long l =
+          let l' : (layout_of to).top < depth_in slip * count_in slip = rw (laid, is) at l in
+          turned_refused from to slip bytes RowLong (refused_row from to slip (length bytes) own fine l')
 
-      pub turned-written : isEdition to ≡ true → s .r * s .count ≤ L .top → {a : Answer} {bytes′ : List ℕ}
-          → Written to (s .m) (s .r) (s .k) (take (s .count) points′) (take (s .r * s .count) row′) bytes a bytes′ → Turned from to slip bytes a bytes′
+      pub turned_written : is_edition to ≡ true → s.r * s.count ≤ L.top → {a : Answer} {bytes' : List ℕ}
+          → Written to s.m s.r s.k (take s.count points') (take (s.r * s.count) row') bytes a bytes' → Turned from to slip bytes a bytes'
       unfolding reading turned
-      turned-written wanted l {a} {bytes′} x =
-          let l′ : depthIn slip * countIn slip ≤ layoutOf to .top = rw (laid, is) at l in
-          let x′ : Written to (widthIn slip) (depthIn slip) (dimensionIn slip) (pointsIn slip) (rowIn slip) bytes a bytes′ = rw (is, points-in took d done, row-in took d done) at x in
-          let e = by-writer from to slip (length bytes) own fine wanted l′ in
-          record { answers = x′ .answers ∙ rw (e, length-turned to slip); leaves = x′ .leaves ∙ rw e }
+      turned_written wanted l {a} {bytes'} x =
+          let l' : depth_in slip * count_in slip ≤ (layout_of to).top = rw (laid, is) at l in
+          let x' : Written to (width_in slip) (depth_in slip) (dimension_in slip) (points_in slip) (row_in slip) bytes a bytes' = rw (is, points_inside took d done, row_inside took d done) at x in
+          let e = by_writer from to slip (length bytes) own fine wanted l' in
+          record { answers = x'.answers ∙ rw (e, length_turned to slip); leaves = x'.leaves ∙ rw e }

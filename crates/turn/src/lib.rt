@@ -1,17 +1,16 @@
 // A slip turned into one of the other edition.
-ghost use mathlib.Core.Bool.{true};
-ghost use mathlib.Core.Path.{_≡_};
-ghost use Rattle·defs.specs.Slip.{isEdition};
-ghost use Rattle·defs.specs.Turn.{Turned};
-ghost use Rattle·turn·specs.specs.Edition.{editionVerdict};
-use defs::Answer;
-use defs::LONGEST;
-use defs::Refusal;
-use defs::Verdict;
+#![tactic(auto)]
+
+ghost use Rattle.std.specs.Prelude.{true, ◌≡◌};
+ghost use Rattle.defs.specs.Slip.{is_edition};
+ghost use Rattle.defs.specs.Turn.{Turned};
+ghost use Rattle.turn.specs.Edition.{edition_verdict};
+
+use defs::{Answer, LONGEST, Refusal, Verdict};
 
 // 10 and 11, for bytes that are not of this edition.
 fn check_edition(from: usize, slip: &[u8]) -> Verdict
-    ensures { λ v. ⌜ v ≡ editionVerdict from (now (slip .entry)) ⌝ }
+    ensures { result ≡ edition_verdict from slip.now }
 {
     if slip.len() < 3 {
         return Verdict::Refused(Refusal::SlipShort);
@@ -24,8 +23,8 @@ fn check_edition(from: usize, slip: &[u8]) -> Verdict
 
 // Reads a slip of one edition and writes it in another.
 fn turn(from: usize, to: usize, slip: &[u8], bytes: &mut [u8]) -> Answer
-    requires { ⌜ (isEdition from ≡ true) × (isEdition to ≡ true) ⌝ }
-    ensures { λ a. ⌜ Turned from to (now (slip .entry)) (now (bytes .entry)) a (now (bytes .exit)) ⌝ }
+    requires { (is_edition from ≡ true) × (is_edition to ≡ true) }
+    ensures { Turned from to slip.now bytes.old result bytes.new }
 {
     let v = check_edition(from, slip);
     if let Verdict::Refused(x) = v {
@@ -50,14 +49,14 @@ fn turn(from: usize, to: usize, slip: &[u8], bytes: &mut [u8]) -> Answer
 
 // A slip of edition 1 as one of edition 2. Done with its size.
 pub fn to_new(slip: &[u8], bytes: &mut [u8]) -> Answer
-    ensures { λ a. ⌜ Turned 1 2 (now (slip .entry)) (now (bytes .entry)) a (now (bytes .exit)) ⌝ }
+    ensures { Turned 1 2 slip.now bytes.old result bytes.new }
 {
     turn(1, 2, slip, bytes)
 }
 
 // And back.
 pub fn to_old(slip: &[u8], bytes: &mut [u8]) -> Answer
-    ensures { λ a. ⌜ Turned 2 1 (now (slip .entry)) (now (bytes .entry)) a (now (bytes .exit)) ⌝ }
+    ensures { Turned 2 1 slip.now bytes.old result bytes.new }
 {
     turn(2, 1, slip, bytes)
 }

@@ -1,0 +1,11 @@
+-- `solve::multiples::add_multiple` meets its contract.
+use Prim.Native.Nat.{◌+◌, ◌*◌, ◌-◌, ◌≤◌}
+use Rattle.solve.specs.Table.{stride}
+use Rattle.solve.proofs.Writes.{Adds}
+use Rattle.solve.proofs.multiples.add_multiple.Given as goal
+
+abbrev pub invariant-loop-j : goal.invariant-loop-j
+invariant-loop-j l = (l.start ≤ l.j) × (l.j ≤ l.cols) × Adds l.m l.f (λ i. l.r * stride + i) (λ i. l.p * stride + i) l.initial.t l.start l.j l.t
+
+abbrev pub decreases-loop-j : goal.decreases-loop-j
+decreases-loop-j l = l.cols - l.j
