@@ -5,9 +5,9 @@
 # A landing that adds calls, or makes one longer, weighs again and raises below_code and below_data, with the same slack.
 source "$(dirname "$0")/common.bash"
 archive=target/staticlib/libplq.a
-below_data=1784    # 1,768 and a constant of 16
-below_code=52578   # 51,072 and a slack of 1,506
-below_encoder=2275 # 2,213 and a slack of 62
+below_data=1430    # 1,414 and a constant of 16
+below_code=33054   # 31,548 and a slack of 1,506
+below_encoder=2158 # 2,096 and a slack of 62
 
 # weighed FILE: its sections and their sizes
 weighed() { size -A "$1" >"$dir/sections" || fail "size failed on $1"; }

@@ -4,8 +4,9 @@
 ghost use Rattle.std.specs.Prelude.{◌≡◌};
 ghost use Rattle.defs.specs.Refusal.{number_of, place_of, number, detail};
 
-use defs::{Answer, Refusal};
+use defs::Refusal;
 
+// A match for the numbers, by which C knows refusals, and one for the places: five of the sixteen have one, so one match with a pair for each would be no plainer.
 fn number_of(x: Refusal) -> usize
     ensures { result ≡ number_of x }
 {
@@ -33,41 +34,25 @@ fn place_of(x: Refusal) -> usize
     ensures { result ≡ place_of x }
 {
     match x {
-        Refusal::Field => 0,
-        Refusal::Depth => 0,
-        Refusal::Points => 0,
-        Refusal::Dimension => 0,
-        Refusal::PointHigh(i) => i,
-        Refusal::PointTwice(i) => i,
-        Refusal::Length => 0,
-        Refusal::SymbolHigh(i) => i,
-        Refusal::TooFar => 0,
-        Refusal::SlipShort => 0,
-        Refusal::Edition => 0,
-        Refusal::SlipLong => 0,
-        Refusal::SlipBits => 0,
-        Refusal::RowLong => 0,
-        Refusal::LevelLine(i) => i,
-        Refusal::LevelHigh(i) => i,
+        Refusal::PointHigh(i)
+        | Refusal::PointTwice(i)
+        | Refusal::SymbolHigh(i)
+        | Refusal::LevelLine(i)
+        | Refusal::LevelHigh(i) => i,
+        _ => 0,
     }
 }
 
 // The number of an answer.
-pub fn number_in(a: Answer) -> usize
+pub fn number_in(a: Result<usize, Refusal>) -> usize
     ensures { result ≡ number a }
 {
-    match a {
-        Answer::Done(_) => 0,
-        Answer::Refused(x) => number_of(x),
-    }
+    a.map_or_else(number_of, |_| 0)
 }
 
 // The detail of an answer.
-pub fn detail_in(a: Answer) -> usize
+pub fn detail_in(a: Result<usize, Refusal>) -> usize
     ensures { result ≡ detail a }
 {
-    match a {
-        Answer::Done(d) => d,
-        Answer::Refused(x) => place_of(x),
-    }
+    a.unwrap_or_else(place_of)
 }

@@ -1,106 +1,89 @@
 // Each call, and the line that says what it answered and what its buffers hold afterwards.
-use crate::show;
+use crate::frame::Numbers;
+use crate::show::{Answered, Hex, Reading};
+use defs::Refusal;
 use std::io;
 
-pub fn encode(
-    rt: &impl Print,
-    m: usize,
-    r: usize,
-    k: usize,
-    points: &[u8],
-    message: &[u8],
-    row: &mut [u8],
-) -> io::Result<()> {
-    show::answer(rt, rows::encode(m, r, k, points, message, row))?;
-    show::buffer(rt, row)
+// What a call is made with: its numbers, and the points, the row, the text or the like that it reads.
+// The buffers that it fills are passed beside this: tried within it, and the borrow checker does not follow a `&mut` in a struct here.
+#[derive(Clone, Copy)]
+pub struct Case<'a> {
+    pub numbers: Numbers,
+    pub first: &'a [u8],
+    pub second: &'a [u8],
+}
+
+// The line of a call that fills one buffer.
+fn show(rt: &impl Print, a: Result<usize, Refusal>, buffer: &[u8]) -> io::Result<()> {
+    println!(rt; "{} {}", Answered(a), Hex(buffer))
+}
+
+pub fn encode(rt: &impl Print, case: Case<'_>, row: &mut [u8]) -> io::Result<()> {
+    let Numbers { m, r, k, .. } = case.numbers;
+    let a = rows::encode(m, r, k, case.first, case.second, row);
+    show(rt, a, row)
 }
 
 pub fn decode(
     rt: &impl Print,
-    m: usize,
-    r: usize,
-    k: usize,
-    points: &[u8],
-    row: &[u8],
+    case: Case<'_>,
     message: &mut [u8],
     depths: &mut [u8],
 ) -> io::Result<()> {
-    show::answer(rt, decode::decode(m, r, k, points, row, message, depths))?;
-    show::buffer(rt, message)?;
-    show::buffer(rt, depths)
+    let Numbers { m, r, k, .. } = case.numbers;
+    let a = decode::decode(m, r, k, case.first, case.second, message, depths);
+    println!(rt; "{} {} {}", Answered(a), Hex(message), Hex(depths))
 }
 
-pub fn distance(rt: &impl Print, r: usize, a: &[u8], b: &[u8]) -> io::Result<()> {
-    show::answer(rt, rows::distance(r, a, b))
+pub fn distance(rt: &impl Print, case: Case<'_>) -> io::Result<()> {
+    let a = rows::distance(case.numbers.r, case.first, case.second);
+    println!(rt; "{}", Answered(a))
 }
 
-pub fn slip_write(
-    rt: &impl Print,
-    edition: usize,
-    m: usize,
-    r: usize,
-    k: usize,
-    points: &[u8],
-    row: &[u8],
-    bytes: &mut [u8],
-) -> io::Result<()> {
-    show::answer(rt, slip::slip_write(edition, m, r, k, points, row, bytes))?;
-    show::buffer(rt, bytes)
+pub fn slip_write(rt: &impl Print, case: Case<'_>, bytes: &mut [u8]) -> io::Result<()> {
+    let Numbers { edition, m, r, k } = case.numbers;
+    let a = slip::slip_write(edition, m, r, k, case.first, case.second, bytes);
+    show(rt, a, bytes)
 }
 
 pub fn slip_read(
     rt: &impl Print,
-    bytes: &[u8],
+    case: Case<'_>,
     points: &mut [u8],
     row: &mut [u8],
 ) -> io::Result<()> {
-    show::reading(rt, slip::slip_read(bytes, points, row))?;
-    show::buffer(rt, points)?;
-    show::buffer(rt, row)
+    let s = slip::slip_read(case.first, points, row);
+    println!(rt; "{} {} {}", Reading(s), Hex(points), Hex(row))
 }
 
-pub fn line(rt: &impl Print, bytes: &[u8], text: &mut [u8]) -> io::Result<()> {
-    show::answer(rt, line::line(bytes, text))?;
-    show::buffer(rt, text)
+pub fn line(rt: &impl Print, case: Case<'_>, text: &mut [u8]) -> io::Result<()> {
+    let a = line::line(case.first, text);
+    show(rt, a, text)
 }
 
 // The size of the first slip stands where another call has its detail.
-pub fn roll_first(rt: &impl Print, roll: &[u8]) -> io::Result<()> {
-    show::numbers(
-        rt,
-        answers::number_in(roll::roll_answer(roll)),
-        roll::roll_first(roll).len(),
-    )
+pub fn roll_first(rt: &impl Print, case: Case<'_>) -> io::Result<()> {
+    let number = answers::number_in(roll::roll_answer(case.first));
+    let size = roll::roll_first(case.first).len();
+    println!(rt; "{number} {size}")
 }
 
-pub fn to_new(rt: &impl Print, slip: &[u8], bytes: &mut [u8]) -> io::Result<()> {
-    show::answer(rt, turn::to_new(slip, bytes))?;
-    show::buffer(rt, bytes)
+pub fn to_new(rt: &impl Print, case: Case<'_>, bytes: &mut [u8]) -> io::Result<()> {
+    let a = turn::to_new(case.first, bytes);
+    show(rt, a, bytes)
 }
 
-pub fn to_old(rt: &impl Print, slip: &[u8], bytes: &mut [u8]) -> io::Result<()> {
-    show::answer(rt, turn::to_old(slip, bytes))?;
-    show::buffer(rt, bytes)
+pub fn to_old(rt: &impl Print, case: Case<'_>, bytes: &mut [u8]) -> io::Result<()> {
+    let a = turn::to_old(case.first, bytes);
+    show(rt, a, bytes)
 }
 
-pub fn levels_read(
-    rt: &impl Print,
-    m: usize,
-    r: usize,
-    text: &[u8],
-    row: &mut [u8],
-) -> io::Result<()> {
-    show::answer(rt, levels::levels_read(m, r, text, row))?;
-    show::buffer(rt, row)
+pub fn levels_read(rt: &impl Print, case: Case<'_>, row: &mut [u8]) -> io::Result<()> {
+    let a = levels::levels_read(case.numbers.m, case.numbers.r, case.first, row);
+    show(rt, a, row)
 }
 
-pub fn levels_write(
-    rt: &impl Print,
-    m: usize,
-    r: usize,
-    row: &[u8],
-    text: &mut [u8],
-) -> io::Result<()> {
-    show::answer(rt, levels::levels_write(m, r, row, text))?;
-    show::buffer(rt, text)
+pub fn levels_write(rt: &impl Print, case: Case<'_>, text: &mut [u8]) -> io::Result<()> {
+    let a = levels::levels_write(case.numbers.m, case.numbers.r, case.first, text);
+    show(rt, a, text)
 }

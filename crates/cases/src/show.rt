@@ -1,47 +1,44 @@
-// The line of a case: number and detail, the reader's five numbers, and each buffer in hexadecimal, with single spaces between.
-use defs::{Answer, SlipRead};
-use std::io;
-
-fn number(rt: &impl Print, x: usize) -> io::Result<()> {
-    print!(rt; "{x}")
-}
+// What a case's line is made of: number and detail, the reader's five numbers, and each buffer in hexadecimal.
+use defs::{Refusal, SlipRead};
+use std::fmt;
 
 // Two digits for each byte, a bar for none.
-pub fn buffer(rt: &impl Print, s: &[u8]) -> io::Result<()> {
-    print!(rt; " ")?;
-    if s.len() == 0 {
-        print!(rt; "-")?;
+#[derive(Clone, Copy)]
+pub struct Hex<'a>(pub &'a [u8]);
+
+impl fmt::Display for Hex<'_> {
+    fn fmt<W: fmt::Write>(&self, f: &mut fmt::Formatter<W>) -> fmt::Result {
+        if self.0.is_empty() {
+            return f.write_str("-");
+        }
+        for x in self.0 {
+            write!(f, "{x:02x}")?;
+        }
+        Ok(())
     }
-    let mut i = 0;
-    while i < s.len() {
-        let x = s[i];
-        print!(rt; "{x:02x}")?;
-        i += 1;
+}
+
+// The number and the detail of an answer.
+#[derive(Clone, Copy)]
+pub struct Answered(pub Result<usize, Refusal>);
+
+impl fmt::Display for Answered {
+    fn fmt<W: fmt::Write>(&self, f: &mut fmt::Formatter<W>) -> fmt::Result {
+        let number = answers::number_in(self.0);
+        let detail = answers::detail_in(self.0);
+        write!(f, "{number} {detail}")
     }
-    Ok(())
 }
 
-pub fn numbers(rt: &impl Print, a: usize, b: usize) -> io::Result<()> {
-    number(rt, a)?;
-    print!(rt; " ")?;
-    number(rt, b)
-}
+// What the slip reader answers: its number and detail, then the edition and the code's numbers, each 0 on a refusal.
+#[derive(Clone, Copy)]
+pub struct Reading(pub Result<SlipRead, Refusal>);
 
-pub fn answer(rt: &impl Print, a: Answer) -> io::Result<()> {
-    numbers(rt, answers::number_in(a), answers::detail_in(a))
-}
-
-pub fn reading(rt: &impl Print, s: SlipRead) -> io::Result<()> {
-    let a = s.answer;
-    answer(rt, a)?;
-    print!(rt; " ")?;
-    number(rt, s.edition)?;
-    print!(rt; " ")?;
-    number(rt, s.m)?;
-    print!(rt; " ")?;
-    number(rt, s.r)?;
-    print!(rt; " ")?;
-    number(rt, s.count)?;
-    print!(rt; " ")?;
-    number(rt, s.k)
+impl fmt::Display for Reading {
+    fn fmt<W: fmt::Write>(&self, f: &mut fmt::Formatter<W>) -> fmt::Result {
+        match self.0 {
+            Ok(s) => write!(f, "0 0 {} {} {} {} {}", s.edition, s.m, s.r, s.count, s.k),
+            Err(x) => write!(f, "{} 0 0 0 0 0", Answered(Err(x))),
+        }
+    }
 }

@@ -5,13 +5,11 @@ use mathlib.Core.List.{List, ◌++◌}
 use native.Mathlib.Decide.{dec_lt}
 use native.Mathlib.Nat.{zero-add, add-sub_of_le}
 use native.Mathlib.Omega.{arith}
-use lib.ListN.{length, get_or, drop, set, replicate, length-append, length-drop, get_or-append, get_or-eq_default}
+use lib.ListN.{length, get_or, take, drop, replicate, length-append, length-drop, get_or-append, get_or-eq_default}
 use lib.Seq.{ext_get_or, get_or-append-add, get_or-drop}
 use Rattle.defs.specs.Place.{tab}
 use Rattle.defs.specs.Limits.{deepest}
-use Rattle.theory.specs.Fill.{filled}
-use Rattle.theory.proofs.Fill.{filled_none, filled_next, filled_front}
-use Rattle.theory.proofs.Place.{length_tab, get_d_tab, tab_same, zeros_zero}
+use Rattle.theory.proofs.Place.{length_tab, get_d_tab, tab_same, tab_take, zeros_zero}
 use Rattle.code.specs.Chunk.{blank, chunk_of}
 
 pub length_blank : length blank ≡ deepest
@@ -57,19 +55,10 @@ pub chunk_same : (r : ℕ) (F G : ℕ → ℕ) → ((j : ℕ) → F j ≡ G j) �
 unfolding chunk_of
 chunk_same r F G e = ap (λ (s : List ℕ). s ++ drop r blank) (tab_same F G r (λ j l. e j))
 
--- a chunk whose first j symbols are written
-unfoldable pub begun : ℕ → (ℕ → ℕ) → List ℕ
-begun j F = filled blank 0 F j
-
-module _ (F : ℕ → ℕ) where
-  pub chunk_first : replicate deepest 0 ≡ begun 0 F
-  unfolding begun blank
-  chunk_first = filled_none (replicate deepest 0) 0 F
-
-  pub chunk_more : (chunk : List ℕ) (j x : ℕ) → j < deepest → chunk ≡ begun j F → x ≡ F j → set chunk j x ≡ begun (j + 1) F
-  unfolding begun
-  chunk_more chunk j x l e f = rw (e, f) (filled_next blank F j (omega (arith, length_blank)))
-
-  pub chunk_last : (chunk : List ℕ) (r j : ℕ) → chunk ≡ begun j F → j ≤ r → r ≤ j → chunk ≡ chunk_of r F
-  unfolding begun chunk_of
-  chunk_last chunk r j e l h = let q : j ≡ r = omega arith in e ∙ ap (filled blank 0 F) q ∙ filled_front blank F r
+-- a chunk that is copied out of a row
+pub chunk_copied : (s new : List ℕ) (at r : ℕ) → at + r ≤ length s → new ≡ take r (drop at s) → new ++ drop r (replicate deepest 0) ≡ chunk_of r (λ j. get_or s (at + j) 0)
+unfolding chunk_of blank
+chunk_copied s new at r h e =
+    let taken : take r (drop at s) ≡ tab (λ j. get_or s (at + j) 0) r =
+    sym (tab_take (drop at s) r (omega (arith, length-drop at s))) ∙ tab_same _ _ r (λ j l. get_or-drop at s j 0) in
+    ap (λ (c : List ℕ). c ++ drop r (replicate deepest 0)) (e ∙ taken)

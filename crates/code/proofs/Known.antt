@@ -3,6 +3,7 @@ use Prim.Native.Nat.{ℕ, ◌<◌}
 use mathlib.Core.Path.{◌≡◌, sym, subst}
 use lib.ListN.{get_or}
 use lib.Seq.{get_or-take}
+use Rattle.defs.specs.Field.{Width}
 use Rattle.defs.specs.Place.{Symbols}
 use Rattle.defs.specs.declared.Code.{Code}
 use Rattle.theory.specs.Limits.{Numbers}
@@ -17,3 +18,6 @@ code_symbols {c} C = (inside_known _ _ _ (points_of c) C.inside).symbols
 
 pub code_point : {c : Code} → IsCode c → (i : ℕ) → i < c.count → get_or c.points i 0 ≡ get_or (points_of c) i 0
 code_point {c} C i l = sym (get_or-take c.count c.points i 0 l)
+
+pub code_width : (c : Code) → Width c.m
+code_width c = (inside_known _ _ _ (points_of c) c.inside).numbers.width

@@ -1,30 +1,23 @@
 -- The check of the numbers, test by test: a test that fails refuses, and one that is passed leaves the checks behind it.
 use Prim.Native.Nat.{ℕ, ◌*◌, ◌^◌, ◌<◌, ◌≤◌}
-use mathlib.Core.Bool.{Bool, true, false, ◌||◌}
-use mathlib.Core.Path.{◌≡◌, sym, ◌∙◌}
+use mathlib.Core.Bool.{true, false, ◌||◌}
+use mathlib.Core.Path.{◌≡◌}
 use native.Mathlib.Nat.{mul-le-mul, le_trans}
 use borrow.Author.Tests.{eq-eqb, ne_eqb, lt-ltb, le-ltb}
 use lib.Dec.{eqb, ltb}
 use Rattle.defs.specs.Field.{Width}
-use Rattle.defs.specs.Refusal.{refuse}
+use Rattle.defs.specs.Refusal.{refuse, Verdict, fine}
 use Rattle.defs.specs.Limits.{deepest, is_width, numbers_verdict}
 use Rattle.defs.specs.declared.Refusal.TheVariants.{Field, Depth, Points, Dimension}
-use Rattle.defs.specs.declared.Verdict.{Verdict}
-use Rattle.defs.specs.declared.Verdict.TheVariants.{Fine, Refused}
 use Rattle.theory.proofs.Width.{field_top}
-use Rattle.theory.proofs.Limits.{width_known}
+use Rattle.std.proofs.Common.{Err}
 
--- b is what the test of m found
-pub is_wide : (m : ℕ) (b : Bool) → b ≡ is_width m → b ≡ true → Width m
-is_wide m b found t = width_known m (sym found ∙ t)
-
--- the product is formed only where it is this small
 pub product_small : (m r count size : ℕ) → Width m → r ≤ deepest → size ≡ 2 ^ m → count ≤ size → r * count ≤ 2048
 product_small m r count size w h e l = let top : size ≤ 256 = rw e (field_top m w) in mul-le-mul h (le_trans l top)
 
 -- the checks from 4 on, from 3 on and from 2 on
 unfoldable pub from_dimension : ℕ → ℕ → ℕ → Verdict
-from_dimension r k count = refuse (eqb k 0 || ltb (r * count) k) Dimension Fine
+from_dimension r k count = refuse (eqb k 0 || ltb (r * count) k) Dimension fine
 
 unfoldable pub from_points : ℕ → ℕ → ℕ → ℕ → ℕ → Verdict
 from_points top m r k count = refuse (eqb count 0 || (ltb (2 ^ m) count || ltb top (r * count))) Points (from_dimension r k count)
@@ -32,22 +25,21 @@ from_points top m r k count = refuse (eqb count 0 || (ltb (2 ^ m) count || ltb t
 unfoldable pub from_depth : ℕ → ℕ → ℕ → ℕ → ℕ → Verdict
 from_depth top m r k count = refuse (eqb r 0 || ltb deepest r) Depth (from_points top m r k count)
 
--- b is what the test of m found, and size what the size of the field was found to be
+-- size is what the size of the field was found to be
 module _ (top m r k count : ℕ) where
-  module _ (b : Bool) (found : b ≡ is_width m) where
-    pub not_width : b ≡ false → numbers_verdict top m r k count ≡ Refused Field
-    unfolding numbers_verdict refuse
-    not_width t = rw (sym found ∙ t)
+  pub not_width : is_width m ≡ false → numbers_verdict top m r k count ≡ Err Field
+  unfolding numbers_verdict refuse
+  not_width t = rw t
 
-    pub width_passed : b ≡ true → numbers_verdict top m r k count ≡ from_depth top m r k count
-    unfolding numbers_verdict from_depth from_points from_dimension refuse
-    width_passed t = rw (sym found ∙ t)
+  pub width_passed : is_width m ≡ true → numbers_verdict top m r k count ≡ from_depth top m r k count
+  unfolding numbers_verdict from_depth from_points from_dimension refuse
+  width_passed t = rw t
 
-  pub no_depth : r ≡ 0 → from_depth top m r k count ≡ Refused Depth
+  pub no_depth : r ≡ 0 → from_depth top m r k count ≡ Err Depth
   unfolding from_depth refuse
   no_depth t = rw (eq-eqb r 0 t)
 
-  pub too_deep : (r ≡ 0 → ⊥) → deepest < r → from_depth top m r k count ≡ Refused Depth
+  pub too_deep : (r ≡ 0 → ⊥) → deepest < r → from_depth top m r k count ≡ Err Depth
   unfolding from_depth refuse
   too_deep n t = rw (ne_eqb r 0 n, lt-ltb deepest r t)
 
@@ -55,16 +47,16 @@ module _ (top m r k count : ℕ) where
   unfolding from_depth from_points refuse
   depth_passed n t = rw (ne_eqb r 0 n, le-ltb deepest r t)
 
-  pub no_points : count ≡ 0 → from_points top m r k count ≡ Refused Points
+  pub no_points : count ≡ 0 → from_points top m r k count ≡ Err Points
   unfolding from_points refuse
   no_points t = rw (eq-eqb count 0 t)
 
   module _ (some : count ≡ 0 → ⊥) (size : ℕ) (is_size : size ≡ 2 ^ m) where
-    pub too_many : size < count → from_points top m r k count ≡ Refused Points
+    pub too_many : size < count → from_points top m r k count ≡ Err Points
     unfolding from_points refuse
     too_many t = rw (ne_eqb count 0 some, ← is_size, lt-ltb size count t)
 
-    pub too_long : count ≤ size → top < r * count → from_points top m r k count ≡ Refused Points
+    pub too_long : count ≤ size → top < r * count → from_points top m r k count ≡ Err Points
     unfolding from_points refuse
     too_long l t = rw (ne_eqb count 0 some, ← is_size, le-ltb size count l, lt-ltb top (r * count) t)
 
@@ -73,14 +65,14 @@ module _ (top m r k count : ℕ) where
     points_passed l t = rw (ne_eqb count 0 some, ← is_size, le-ltb size count l, le-ltb top (r * count) t)
 
 module _ (r k count : ℕ) where
-  pub no_dimension : k ≡ 0 → from_dimension r k count ≡ Refused Dimension
+  pub no_dimension : k ≡ 0 → from_dimension r k count ≡ Err Dimension
   unfolding from_dimension refuse
   no_dimension t = rw (eq-eqb k 0 t)
 
-  pub too_large : (k ≡ 0 → ⊥) → r * count < k → from_dimension r k count ≡ Refused Dimension
+  pub too_large : (k ≡ 0 → ⊥) → r * count < k → from_dimension r k count ≡ Err Dimension
   unfolding from_dimension refuse
   too_large n t = rw (ne_eqb k 0 n, lt-ltb (r * count) k t)
 
-  pub all_passed : (k ≡ 0 → ⊥) → k ≤ r * count → from_dimension r k count ≡ Fine
+  pub all_passed : (k ≡ 0 → ⊥) → k ≤ r * count → from_dimension r k count ≡ fine
   unfolding from_dimension refuse
   all_passed n t = rw (ne_eqb k 0 n, le-ltb (r * count) k t)

@@ -1,12 +1,12 @@
--- The checked code, and what those who are passed one may rely on.
-use Rattle.std.specs.Prelude.{ℕ, ◌≡◌, List, [], length, take, replicate}
-use Rattle.defs.specs.Limits.{longest, code_verdict, Inside}
+-- The checked code, what is known of it, and the answer of a search.
+use Rattle.std.specs.Prelude.{ℕ, ◌≡◌, cond, Option, Some, None, List, ltb, length, take, replicate}
+use Rattle.defs.specs.Limits.{longest, Inside}
 use Rattle.defs.specs.Write.{front}
-use Rattle.defs.specs.declared.Refusal.{Refusal}
-use Rattle.defs.specs.declared.Verdict.{Verdict}
-use Rattle.defs.specs.declared.Verdict.TheVariants.{Fine, Refused}
 use Rattle.defs.specs.declared.Code.{Code}
-use Rattle.code.specs.declared.Checked.{Checked}
+
+-- what a search for the least index answers, where n means that there is none
+abbrev pub found : ℕ → ℕ → Option ℕ
+found i n = cond (ltb i n) (Some i) None
 
 unfoldable pub zeros : List ℕ
 zeros = replicate longest 0
@@ -15,21 +15,18 @@ zeros = replicate longest 0
 unfoldable pub padded : List ℕ → List ℕ
 padded points = front points zeros
 
--- the code with its points inside it, or all zeros
-unfoldable pub code_for : Verdict → ℕ → ℕ → ℕ → List ℕ → Code
-code_for Fine m r k points = record { m = m; r = r; k = k; count = length points; points = padded points }
-code_for (Refused x) m r k points = record { m = 0; r = 0; k = 0; count = 0; points = zeros }
-
-unfoldable pub checked : ℕ → ℕ → ℕ → List ℕ → Checked
-checked m r k points = record { verdict = code_verdict longest m r k points; code = code_for (code_verdict longest m r k points) m r k points }
-
-unfoldable pub refused_with : Refusal → Checked
-refused_with x = record { verdict = Refused x; code = code_for (Refused x) 0 0 0 [] }
+-- the code has these numbers and these points
+pub record CodeOf (m r k : ℕ) (points : List ℕ) (c : Code) : Type 0 where
+  pub m_is : c.m ≡ m
+  pub r_is : c.r ≡ r
+  pub k_is : c.k ≡ k
+  pub count_is : c.count ≡ length points
+  pub points_are : c.points ≡ padded points
 
 abbrev pub points_of : Code → List ℕ
 points_of c = take c.count c.points
 
--- c has passed the check
+-- what the type says of a code: it has passed the check
 pub record IsCode (c : Code) : Type 0 where
   pub inside : Inside c.m c.r c.k (points_of c)
   pub room : length c.points ≡ longest

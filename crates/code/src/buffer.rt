@@ -7,9 +7,5 @@ pub fn copy(bytes: &[u8], buffer: &mut [u8])
     requires { length bytes.now ≤ length buffer.old }
     ensures { buffer.new ≡ front bytes.now buffer.old }
 {
-    let mut i = 0;
-    while i < bytes.len() {
-        buffer[i] = bytes[i];
-        i += 1;
-    }
+    buffer[..bytes.len()].copy_from_slice(bytes);
 }

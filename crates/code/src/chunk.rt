@@ -10,11 +10,7 @@ pub fn chunk_of(s: &[u8], at: usize, r: usize) -> [u8; DEEPEST]
     requires { (r ≤ deepest) × (at + r ≤ length s.now) }
     ensures { result ≡ chunk_of r (λ j. get_or s.now (at + j) 0) }
 {
-    let mut chunk = [0u8; DEEPEST];
-    let mut j = 0;
-    while j < r {
-        chunk[j] = s[at + j];
-        j += 1;
-    }
+    let mut chunk = [0; DEEPEST];
+    chunk[..r].copy_from_slice(&s[at..at + r]);
     chunk
 }

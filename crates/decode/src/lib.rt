@@ -1,119 +1,82 @@
 // Decode: what the quotient of a pair is gets measured against the row; and the call.
 #![tactic(auto)]
 
-ghost use Rattle.std.specs.Prelude.{◌≡◌, ◌≤◌, length};
-ghost use Rattle.defs.specs.Field.{Width};
+ghost use Rattle.std.specs.Prelude.{◌≡◌, length};
 ghost use Rattle.defs.specs.Decode.{Decoded};
-ghost use Rattle.code.specs.Checked.{IsCode};
-ghost use Rattle.rows.specs.Chunk.{Rows};
 ghost use Rattle.pair.specs.Found.{IsRow};
 ghost use Rattle.decode.specs.Search.{rest_verdict, Candidate, Sent, IsSought, Measured};
 
-use defs::{Answer, Code, LONGEST, Refusal, Verdict};
+use defs::{Code, LONGEST, Refusal};
+use rows::TwoRows;
 
 // The row of a message of the code, of n symbols.
-fn row_of(code: Code, message: [u8; LONGEST], n: usize) -> [u8; LONGEST]
-    requires { Candidate code message n }
-    ensures { Sent code message n result }
+fn row_of(code: &Code, message: &[u8], n: usize) -> [u8; LONGEST]
+    requires { Candidate code.now message.now n }
+    ensures { Sent code.now message.now n result }
 {
-    let k = code.k;
-    let mut row = [0u8; LONGEST];
-    rows::write_row(code, &message[..k], &mut row[..n]);
+    let mut row = [0; LONGEST];
+    rows::write_row(code, &message[..code.k], &mut row[..n]);
     row
 }
 
-// A message near to a row, and its own row, where the verdict is fine.
+// A message near to a row, and its own row. There is no heap, so both have the room of the longest row.
 #[derive(Drop)]
 pub struct Sought {
-    pub verdict: Verdict,
     pub message: [u8; LONGEST],
     pub row: [u8; LONGEST],
 }
 
-fn nothing(v: Verdict, blank: [u8; LONGEST]) -> Sought
-    ensures { result.verdict ≡ v }
-{
-    Sought {
-        verdict: v,
-        message: blank,
-        row: blank,
-    }
-}
-
 // Looks for the message near to a row: the quotient of a pair, measured.
-fn seek(code: Code, row: &[u8]) -> Sought
-    requires code { IsCode code }
-    requires row { IsRow code row.now }
-    ensures { IsSought code row.now result }
+// Code and row stand side by side here and in pair's two functions: a struct of both would be made for them alone, and read field by field in each.
+fn seek(code: &Code, row: &[u8]) -> Option<Sought>
+    requires { IsRow code.now row.now }
+    ensures { IsSought code.now row.now result }
 {
-    let blank = [0u8; LONGEST];
     let n = row.len();
-    let k = code.k;
-    let reach = pair::radius(n, k);
-    let paired = pair::find_pair(code, row);
-    let v = paired.verdict;
-    if let Verdict::Refused(_) = v {
-        return nothing(Verdict::Refused(Refusal::TooFar), blank); // no pair exists
-    }
-    let q0 = paired.q0;
-    let q1 = paired.q1;
-    let half = (n + k) / 2;
-    let size = reach + 1;
-    let message = quotient::quotient(code.m, k, &q0[..half], &q1[..size]);
-    let sent = row_of(code, message, n);
-    let d = rows::row_distance(code.r, code.count, &sent[..n], row);
+    let reach = pair::radius(n, code.k);
+    let pair = pair::find_pair(code, row)?;
+    let message = quotient::quotient(code::field_of(code), code.k, pair.first(), pair.second());
+    let sent = row_of(code, &message, n);
+    let rows = TwoRows {
+        r: code.r,
+        count: code.count,
+        a: &sent[..n],
+        b: row,
+    };
+    let d = rows.distance();
     if reach < d {
-        return nothing(Verdict::Refused(Refusal::TooFar), blank);
+        return None;
     }
-    Sought {
-        verdict: Verdict::Fine,
-        message,
-        row: sent,
-    }
+    Some(Sought { message, row: sent })
 }
 
-// Writes the depths of damage in count chunks, and answers their sum.
-fn write_depths(r: usize, count: usize, sent: &[u8], row: &[u8], depths: &mut [u8]) -> usize
-    requires { Rows r count sent.now row.now × (count ≤ length depths.old) }
-    ensures { Measured r count sent.now row.now depths.old result depths.new }
+// Writes the depth of damage in each chunk, and answers their sum.
+fn write_depths(rows: &TwoRows, depths: &mut [u8]) -> usize
+    requires { length depths.old ≡ rows.now.count }
+    ensures { let w = rows.now in Measured w.r w.a.now w.b.now w.count result depths.new }
 {
     let mut total = 0;
-    let mut i = 0;
-    while i < count {
-        let d = rows::chunk_damage(r, sent, row, i);
-        depths[i] = d as u8;
+    for (i, depth) in depths.iter_mut().enumerate() {
+        let d = rows.damage(i);
+        // It fits, as is proved; try_from would bring a branch that no run takes.
+        *depth = d as u8;
         total += d;
-        i += 1;
     }
     total
 }
 
-// 7 and 8: n symbols in the row, and room for k symbols and count depths.
-fn check_rest(
-    m: usize,
-    n: usize,
-    k: usize,
-    count: usize,
-    row: &[u8],
-    size: usize,
-    deep: usize,
-) -> Verdict
-    requires { Width m }
-    ensures { result ≡ rest_verdict m n k count row.now size deep }
+// 7 and 8: as many symbols as the code's rows have, and room for its message and for the depths of its chunks.
+fn check_rest(code: &Code, row: &[u8], size: usize, deep: usize) -> Result<(), Refusal>
+    ensures { result ≡ rest_verdict code.now row.now size deep }
 {
-    if row.len() != n {
-        return Verdict::Refused(Refusal::Length);
+    if row.len() != code.r * code.count || size != code.k || deep != code.count {
+        return Err(Refusal::Length);
     }
-    if size != k {
-        return Verdict::Refused(Refusal::Length);
-    }
-    if deep != count {
-        return Verdict::Refused(Refusal::Length);
-    }
-    code::check_symbols(m, row)
+    code::check_symbols(code::field_of(code), row)
 }
 
 // Decodes a row to the message near to it, or refuses and leaves both buffers as they were.
+// The numbers come loose, since nothing is known of them before the checks.
 pub fn decode(
     m: usize,
     r: usize,
@@ -122,28 +85,18 @@ pub fn decode(
     row: &[u8],
     message: &mut [u8],
     depths: &mut [u8],
-) -> Answer
+) -> Result<usize, Refusal>
     ensures { Decoded m r k points.now row.now message.old depths.old result message.new depths.new }
 {
-    let checked = code::check_code(m, r, k, points);
-    let v = checked.verdict;
-    if let Verdict::Refused(x) = v {
-        return Answer::Refused(x);
-    }
-    let count = points.len();
-    let n = r * count;
-    let rest = check_rest(m, n, k, count, row, message.len(), depths.len());
-    if let Verdict::Refused(x) = rest {
-        return Answer::Refused(x);
-    }
-    let code = checked.code;
-    let sought = seek(code, row);
-    let s = sought.verdict;
-    if let Verdict::Refused(x) = s {
-        return Answer::Refused(x);
-    }
-    let found = sought.message;
-    let sent = sought.row;
-    code::copy(&found[..k], message);
-    Answer::Done(write_depths(r, count, &sent[..n], row, depths))
+    let code = code::check_code(m, r, k, points)?;
+    check_rest(&code, row, message.len(), depths.len())?;
+    let sought = seek(&code, row).ok_or(Refusal::TooFar)?;
+    message.copy_from_slice(&sought.message[..code.k]);
+    let rows = TwoRows {
+        r: code.r,
+        count: code.count,
+        a: &sought.row[..row.len()],
+        b: row,
+    };
+    Ok(write_depths(&rows, depths))
 }

@@ -3,16 +3,13 @@ use Rattle.std.specs.Prelude.{ℕ, ◌*◌, ◌/◌, ◌%◌, ◌≡◌, ◌||�
 use Rattle.defs.specs.Place.{first_high}
 use Rattle.defs.specs.Row.{row_of}
 use Rattle.defs.specs.Distance.{distance}
-use Rattle.defs.specs.Refusal.{refuse, and_then, answer, kept}
+use Rattle.defs.specs.Refusal.{refuse, and_then, answer, kept, Answer, Verdict, fine}
 use Rattle.defs.specs.Limits.{deepest, longest, code_verdict}
 use Rattle.defs.specs.declared.Refusal.TheVariants.{Depth, Length, SymbolHigh}
-use Rattle.defs.specs.declared.Verdict.{Verdict}
-use Rattle.defs.specs.declared.Verdict.TheVariants.{Fine}
-use Rattle.defs.specs.declared.Answer.{Answer}
 
 -- 8: the least index of a symbol outside the field
 unfoldable pub symbols_verdict : ℕ → List ℕ → Verdict
-symbols_verdict m s = refuse (ltb (first_high m s) (length s)) (SymbolHigh (first_high m s)) Fine
+symbols_verdict m s = refuse (ltb (first_high m s) (length s)) (SymbolHigh (first_high m s)) fine
 
 -- 1 to 6, 7, 8; size is the length of the row buffer
 unfoldable pub encode_verdict : ℕ → ℕ → ℕ → List ℕ → List ℕ → ℕ → Verdict
@@ -30,7 +27,7 @@ pub record Encoded (m r k : ℕ) (points message row : List ℕ) (a : Answer) (r
 unfoldable pub distance_verdict : ℕ → ℕ → ℕ → Verdict
 distance_verdict r n n' =
     refuse (eqb r 0 || ltb deepest r) Depth
-    (refuse (not (eqb n n') || (eqb n 0 || (ltb longest n || not (eqb (n % r) 0)))) Length Fine)
+    (refuse (not (eqb n n') || (eqb n 0 || (ltb longest n || not (eqb (n % r) 0)))) Length fine)
 
 unfoldable pub distance_answer : ℕ → List ℕ → List ℕ → Answer
 distance_answer r u w = answer (distance_verdict r (length u) (length w)) (distance r (length u / r) u w)

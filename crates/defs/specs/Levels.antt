@@ -3,15 +3,12 @@
 use Rattle.std.specs.Prelude.{ℕ, suc, ◌*◌, ◌-◌, ◌/◌, ◌%◌, ◌^◌, ◌≡◌, Bool, cond, ◌&&◌, ◌||◌, not, List, [], ◌∷◌, ◌++◌, map, eqb, leb, ltb, length, get_or}
 use Rattle.defs.specs.Place.{tab, total}
 use Rattle.defs.specs.Distance.{symbol}
-use Rattle.defs.specs.Refusal.{refuse, and_then, answer, kept}
+use Rattle.defs.specs.Refusal.{refuse, and_then, answer, kept, Answer, Verdict, fine}
 use Rattle.defs.specs.Limits.{is_width}
 use Rattle.defs.specs.Encode.{symbols_verdict, distance_verdict}
 use Rattle.defs.specs.Write.{front}
 use Rattle.defs.specs.Text.{decimal, digit_count, value_from, text_verdict}
 use Rattle.defs.specs.declared.Refusal.TheVariants.{Field, Length, LevelLine, LevelHigh}
-use Rattle.defs.specs.declared.Verdict.{Verdict}
-use Rattle.defs.specs.declared.Verdict.TheVariants.{Fine}
-use Rattle.defs.specs.declared.Answer.{Answer}
 
 -- the level of a chunk u, with q = 2 ^ m: the sum of symbol j times q ^ (r - 1 - j)
 unfoldable pub level : ℕ → ℕ → (ℕ → ℕ) → ℕ
@@ -53,11 +50,11 @@ value_of line = value_from 0 line
 -- 17, then 18, with the number i of the line; bound is q ^ r
 unfoldable pub level_verdict : ℕ → ℕ → List ℕ → Verdict
 level_verdict bound i line =
-    refuse (not (written line)) (LevelLine i) (refuse (leb bound (value_of line)) (LevelHigh i) Fine)
+    refuse (not (written line)) (LevelLine i) (refuse (leb bound (value_of line)) (LevelHigh i) fine)
 
 -- the first bad line decides; i is the number of the first line
 unfoldable pub lines_verdict : ℕ → ℕ → List (List ℕ) → Verdict
-lines_verdict bound i [] = Fine
+lines_verdict bound i [] = fine
 lines_verdict bound i (line ∷ rest) = and_then (level_verdict bound i line) (lines_verdict bound (suc i) rest)
 
 -- 1, 2, then 7 for a row length n that is 0, above the longest or no multiple of r: as for the distance of two such rows
@@ -67,7 +64,7 @@ shape_verdict m r n = refuse (not (is_width m)) Field (distance_verdict r n n)
 -- then the lines in order, then 7 for their number; n is the length of the row buffer
 unfoldable pub levels_read_verdict : ℕ → ℕ → List ℕ → ℕ → Verdict
 levels_read_verdict m r text n = and_then (shape_verdict m r n)
-    (and_then (lines_verdict ((2 ^ m) ^ r) 0 (lines text)) (refuse (not (eqb (length (lines text)) (n / r))) Length Fine))
+    (and_then (lines_verdict ((2 ^ m) ^ r) 0 (lines text)) (refuse (not (eqb (length (lines text)) (n / r))) Length fine))
 
 -- the row of a text
 unfoldable pub text_row : ℕ → ℕ → List ℕ → List ℕ

@@ -1,10 +1,8 @@
 -- The limits of a code, as the refusals 1 to 6 in their order.
 use Rattle.std.specs.Prelude.{ℕ, ◌*◌, ◌^◌, ◌≡◌, Bool, ◌||◌, not, List, eqb, ltb, length, get_or}
 use Rattle.defs.specs.Place.{least, first_high}
-use Rattle.defs.specs.Refusal.{refuse, and_then}
+use Rattle.defs.specs.Refusal.{refuse, and_then, Verdict, fine}
 use Rattle.defs.specs.declared.Refusal.TheVariants.{Field, Depth, Points, Dimension, PointHigh, PointTwice}
-use Rattle.defs.specs.declared.Verdict.{Verdict}
-use Rattle.defs.specs.declared.Verdict.TheVariants.{Fine}
 
 -- the symbols that a chunk may have, and those that a row may have
 abbrev pub deepest : ℕ
@@ -22,7 +20,7 @@ numbers_verdict top m r k count =
     refuse (not (is_width m)) Field
     (refuse (eqb r 0 || ltb deepest r) Depth
     (refuse (eqb count 0 || (ltb (2 ^ m) count || ltb top (r * count))) Points
-    (refuse (eqb k 0 || ltb (r * count) k) Dimension Fine)))
+    (refuse (eqb k 0 || ltb (r * count) k) Dimension fine)))
 
 -- the least index whose point equals an earlier one, and the number of points where there is none
 unfoldable pub first_twice : List ℕ → ℕ
@@ -33,11 +31,11 @@ unfoldable pub code_verdict : ℕ → ℕ → ℕ → ℕ → List ℕ → Verdi
 code_verdict top m r k points =
     and_then (numbers_verdict top m r k (length points))
     (refuse (ltb (first_high m points) (length points)) (PointHigh (first_high m points))
-    (refuse (ltb (first_twice points) (length points)) (PointTwice (first_twice points)) Fine))
+    (refuse (ltb (first_twice points) (length points)) (PointTwice (first_twice points)) fine))
 
 -- a code whose rows have at most top symbols
 abbrev pub Within : ℕ → ℕ → ℕ → ℕ → List ℕ → Type 0
-Within top m r k points = code_verdict top m r k points ≡ Fine
+Within top m r k points = code_verdict top m r k points ≡ fine
 
 -- a code inside the limits
 abbrev pub Inside : ℕ → ℕ → ℕ → List ℕ → Type 0

@@ -1,11 +1,7 @@
 -- The number and the detail of each answer, and how checks follow one another.
-use Rattle.std.specs.Prelude.{ℕ, Bool, true, false, List}
+use Rattle.std.specs.Prelude.{ℕ, Bool, true, false, List, Result, Err, Ok}
 use Rattle.defs.specs.declared.Refusal.{Refusal}
 use Rattle.defs.specs.declared.Refusal.TheVariants.{Field, Depth, Points, Dimension, PointHigh, PointTwice, Length, SymbolHigh, TooFar, SlipShort, Edition, SlipLong, SlipBits, RowLong, LevelLine, LevelHigh}
-use Rattle.defs.specs.declared.Verdict.{Verdict}
-use Rattle.defs.specs.declared.Verdict.TheVariants.{Fine, Refused}
-use Rattle.defs.specs.declared.Answer.{Answer}
-use Rattle.defs.specs.declared.Answer.TheVariants.{Done, Refused as No}
 
 abbrev pub number_of : Refusal → ℕ
 number_of Field = 1
@@ -43,30 +39,46 @@ place_of RowLong = 0
 place_of (LevelLine i) = i
 place_of (LevelHigh i) = i
 
+-- what a check finds: nothing, or why the call is refused
+abbrev pub Verdict : Type 0
+Verdict = Result (Unit {0}) Refusal
+
+abbrev pub fine : Verdict
+fine = Ok tt
+
+-- whether a call is refused, and why; what else it answers is left aside
+abbrev pub verdict_of : {A : Type 0} → Result A Refusal → Verdict
+verdict_of (Ok _) = fine
+verdict_of (Err x) = Err x
+
+-- what a call answers: done, with its detail, or refused
+abbrev pub Answer : Type 0
+Answer = Result ℕ Refusal
+
 abbrev pub number : Answer → ℕ
-number (Done d) = 0
-number (No x) = number_of x
+number (Ok d) = 0
+number (Err x) = number_of x
 
 abbrev pub detail : Answer → ℕ
-detail (Done d) = d
-detail (No x) = place_of x
+detail (Ok d) = d
+detail (Err x) = place_of x
 
 -- x where the test holds, and else what comes after
 unfoldable pub refuse : Bool → Refusal → Verdict → Verdict
-refuse true x v = Refused x
+refuse true x v = Err x
 refuse false x v = v
 
 -- the first verdict, and where that is fine the second
 unfoldable pub and_then : Verdict → Verdict → Verdict
-and_then Fine v = v
-and_then (Refused x) v = Refused x
+and_then (Ok _) v = v
+and_then (Err x) v = Err x
 
 -- a call that passes its checks is done with the detail d
 unfoldable pub answer : Verdict → ℕ → Answer
-answer Fine d = Done d
-answer (Refused x) d = No x
+answer (Ok _) d = Ok d
+answer (Err x) d = Err x
 
 -- a buffer that a call writes: a refusal leaves it as it was
 unfoldable pub kept : Verdict → List ℕ → List ℕ → List ℕ
-kept Fine new old = new
-kept (Refused x) new old = old
+kept (Ok _) new old = new
+kept (Err x) new old = old

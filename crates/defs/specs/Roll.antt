@@ -1,14 +1,12 @@
 -- A roll: slips one behind another. Where the first one ends, the two parts, and the walk over the whole.
 use Rattle.std.specs.Prelude.{ℕ, zero, suc, cond, List, [], ◌∷◌, ◌++◌, eqb, length, take, drop}
-use Rattle.defs.specs.Refusal.{kept}
+use Rattle.defs.specs.Refusal.{kept, Verdict, fine}
 use Rattle.defs.specs.Slip.{size_in}
 use Rattle.defs.specs.Read.{first_verdict}
-use Rattle.defs.specs.declared.Verdict.{Verdict}
-use Rattle.defs.specs.declared.Verdict.TheVariants.{Fine}
 
 -- an empty roll is done, another one begins with a slip or is refused
 unfoldable pub roll_verdict : List ℕ → Verdict
-roll_verdict [] = Fine
+roll_verdict [] = fine
 roll_verdict (b ∷ s) = first_verdict (b ∷ s)
 
 -- the bytes of the first slip, none on a refusal, and what stands behind them

@@ -1,9 +1,7 @@
 -- Decimal numbers, as they are written and as they are read, and a text that goes to a caller's buffer.
 use Rattle.std.specs.Prelude.{ℕ, zero, suc, ◌+◌, ◌*◌, ◌-◌, ◌/◌, ◌%◌, Bool, cond, ◌&&◌, List, [], ◌∷◌, ◌++◌, leb, ltb, length}
-use Rattle.defs.specs.Refusal.{refuse}
+use Rattle.defs.specs.Refusal.{refuse, Verdict, fine}
 use Rattle.defs.specs.declared.Refusal.TheVariants.{Length}
-use Rattle.defs.specs.declared.Verdict.{Verdict}
-use Rattle.defs.specs.declared.Verdict.TheVariants.{Fine}
 
 -- a number below 10 ^ d in decimal, without leading zeros
 unfoldable pub digits : ℕ → ℕ → List ℕ
@@ -29,4 +27,4 @@ value_from v (b ∷ s) = cond (is_digit b) (value_from (v * 10 + (b - 48)) s) v
 
 -- 7 for a buffer too short
 unfoldable pub text_verdict : List ℕ → ℕ → Verdict
-text_verdict text size = refuse (ltb size (length text)) Length Fine
+text_verdict text size = refuse (ltb size (length text)) Length fine

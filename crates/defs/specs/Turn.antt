@@ -1,14 +1,11 @@
 -- A slip turned into one of the other edition: what the two calls answer, and what they leave in the bytes, for every input.
 use Rattle.std.specs.Prelude.{ℕ, ◌*◌, ◌≡◌, List, eqb, ltb, length}
-use Rattle.defs.specs.Refusal.{refuse, and_then, answer, kept}
+use Rattle.defs.specs.Refusal.{refuse, and_then, answer, kept, Answer, Verdict, fine}
 use Rattle.defs.specs.Limits.{longest}
 use Rattle.defs.specs.Slip.{layout_of, slip_of, width_in, depth_in, count_in, dimension_in, points_in, row_in}
 use Rattle.defs.specs.Write.{front}
 use Rattle.defs.specs.Read.{first_verdict_of, read_verdict}
 use Rattle.defs.specs.declared.Refusal.TheVariants.{Length, RowLong}
-use Rattle.defs.specs.declared.Verdict.{Verdict}
-use Rattle.defs.specs.declared.Verdict.TheVariants.{Fine}
-use Rattle.defs.specs.declared.Answer.{Answer}
 
 -- the code and the row that stand in a slip, written in another edition
 unfoldable pub turned : ℕ → List ℕ → List ℕ
@@ -19,7 +16,7 @@ turned to slip = slip_of (layout_of to) (width_in slip) (depth_in slip) (dimensi
 unfoldable pub turn_verdict : ℕ → ℕ → List ℕ → ℕ → Verdict
 turn_verdict from to slip size = and_then (first_verdict_of (eqb from) slip) (and_then (read_verdict slip longest longest)
     (refuse (ltb (layout_of to).top (depth_in slip * count_in slip)) RowLong
-    (refuse (ltb size (length (turned to slip))) Length Fine)))
+    (refuse (ltb size (length (turned to slip))) Length fine)))
 
 pub record Turned (from to : ℕ) (slip bytes : List ℕ) (a : Answer) (bytes' : List ℕ) : Type 0 where
   pub answers : a ≡ answer (turn_verdict from to slip (length bytes)) (length (turned to slip))

@@ -1,12 +1,10 @@
 -- What the slip writer answers, and what it leaves in the bytes, for every input.
 use Rattle.std.specs.Prelude.{ℕ, ◌+◌, ◌*◌, ◌≡◌, not, List, ◌++◌, eqb, ltb, length, drop}
-use Rattle.defs.specs.Refusal.{refuse, and_then, answer, kept}
+use Rattle.defs.specs.Refusal.{refuse, and_then, answer, kept, Answer, Verdict}
 use Rattle.defs.specs.Limits.{code_verdict}
 use Rattle.defs.specs.Encode.{symbols_verdict}
 use Rattle.defs.specs.Slip.{is_edition, layout_of, slip_size, slip_of}
 use Rattle.defs.specs.declared.Refusal.TheVariants.{Length, Edition}
-use Rattle.defs.specs.declared.Verdict.{Verdict}
-use Rattle.defs.specs.declared.Answer.{Answer}
 
 -- new written to the front of a buffer, whose rest keeps its bytes
 unfoldable pub front : List ℕ → List ℕ → List ℕ

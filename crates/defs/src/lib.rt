@@ -1,5 +1,8 @@
-// The types that the calls exchange. The definitions that contracts cite are in specs/; there is no function here.
+// The types that the calls exchange. The definitions that contracts cite are in specs/; no function is written here.
 #![tactic(auto)]
+
+ghost use Rattle.std.specs.Prelude.{◌≡◌, ◌≤◌, length, take};
+ghost use Rattle.defs.specs.Limits.{longest, Inside};
 
 // The symbols that a chunk may have.
 pub const DEEPEST: usize = 8;
@@ -8,7 +11,7 @@ pub const DEEPEST: usize = 8;
 pub const LONGEST: usize = 240;
 
 // Why a call is refused: a variant for each number, with the place in 5, 6 and 8 and the line in 17 and 18.
-#[derive(Clone, Copy)]
+#[derive(Clone, Copy, Debug, PartialEq, Eq)]
 pub enum Refusal {
     Field,
     Depth,
@@ -28,21 +31,8 @@ pub enum Refusal {
     LevelHigh(usize),
 }
 
-// What a check finds.
-#[derive(Clone, Copy)]
-pub enum Verdict {
-    Fine,
-    Refused(Refusal),
-}
-
-// What a call answers: done, with its detail, or refused.
-#[derive(Clone, Copy)]
-pub enum Answer {
-    Done(usize),
-    Refused(Refusal),
-}
-
-// A checked code with its points inside it, unused ones zero. count is the number of points.
+// A code that has passed its check, with its points inside it, unused ones zero. count is the number of points. There is no heap, so the points have the room of
+// the longest row.
 #[derive(Clone, Copy)]
 pub struct Code {
     pub m: usize,
@@ -50,6 +40,9 @@ pub struct Code {
     pub k: usize,
     pub count: usize,
     pub points: [u8; LONGEST],
+    pub ghost room: { length points ≡ longest },
+    pub ghost counted: { count ≤ longest },
+    pub ghost inside: { Inside m r k (take count points) },
 }
 
 // How an edition lays out a slip: the bits of n' - 1 and of k - 1, the zero bits behind them, and the longest row that it holds.
@@ -62,10 +55,9 @@ pub struct Layout {
     pub top: usize,
 }
 
-// What the slip reader answers. The edition and the code's numbers are 0 on refusal.
+// What the slip reader says of a slip: its edition and the code's numbers.
 #[derive(Clone, Copy)]
 pub struct SlipRead {
-    pub answer: Answer,
     pub edition: usize,
     pub m: usize,
     pub r: usize,

@@ -2,26 +2,21 @@
 use mathlib.Core.Path.{◌≡◌, refl, sym, ap, ap₂, ◌∙◌, subst}
 use mathlib.Core.List.{List}
 use mathlib.Core.Logic.{⊎_elim}
-use Prim.Native.Nat.{ℕ, suc, ◌+◌, ◌*◌, ◌-◌, ◌^◌, ◌<◌, ◌≤◌}
+use Prim.Native.Nat.{ℕ, suc, ◌+◌, ◌-◌, ◌^◌, ◌<◌, ◌≤◌}
 use native.Mathlib.Nat.{one-mul, pow-suc}
 use native.Mathlib.Numerals.{add-one}
 use native.Mathlib.Omega.{arith}
-use lib.Pow.{pow_pos, pow_mono}
+use lib.Pow.{pow_pos}
 use lib.Bits.{bit_xor, xor_shifted}
 use lib.ListN.{length, get_or, set, length-set, replicate}
 use lib.Seq.{get_or-set_same, get_or-set_other}
-use Rattle.defs.specs.Field.{Width, add, times2, mul}
+use Rattle.defs.specs.Field.{add, times2, mul}
 use Rattle.theory.proofs.Field as F
 use Rattle.theory.proofs.Order.{lt_or_le}
 use Rattle.theory.proofs.Place.{zeros_zero}
-use Rattle.theory.proofs.Width.{field_top}
-use Rattle.field.specs.Arithmetic.{Element, Products, Doubled}
+use Rattle.field.specs.Arithmetic.{Element, Doubled}
 
 -- ---- one doubling, which has copied j entries
-
-pub first_copy : (size step : ℕ) (row : List ℕ) → Doubled size step 0 row row
-first_copy size step row =
-    record { long = refl; low = λ x h. refl; high = λ x h. omega arith; rest = λ x h. refl }
 
 pub next_copy : (size step j : ℕ) (old row : List ℕ) → size + size ≤ length old → j < size
     → Doubled size step j old row → Doubled size step (j + 1) old (set row (size + j) (bit_xor (get_or row j 0) step))
@@ -47,9 +42,7 @@ next_copy size step j old row room h d = record {
 -- ---- the row
 
 -- its first 2 ^ i entries are filled, and step is next
-pub record Filled (m c i size step : ℕ) (row : List ℕ) : Type 0 where
-  pub place : i ≤ m
-  pub count : size ≡ 2 ^ i
+pub record Filled (m c i step : ℕ) (row : List ℕ) : Type 0 where
   pub long : length row ≡ 256
   pub at : (x : ℕ) → x < 2 ^ i → get_or row x 0 ≡ mul m c x
   pub small : (x : ℕ) → get_or row x 0 < 2 ^ m
@@ -57,10 +50,8 @@ pub record Filled (m c i size step : ℕ) (row : List ℕ) : Type 0 where
   pub small_step : step < 2 ^ m
 
 module _ (m c : ℕ) where
-  pub first_fill : c < 2 ^ m → Filled m c 0 1 c (replicate 256 0)
+  pub first_fill : c < 2 ^ m → Filled m c 0 c (replicate 256 0)
   first_fill h = record {
-    place = omega arith;
-    count = refl;
     long = refl;
     at = λ x l. zeros_zero 256 x ∙ sym (F.mul_0 m c) ∙ ap (mul m c) (omega arith);
     small = λ x. rw (zeros_zero 256 x) (pow_pos m);
@@ -80,48 +71,35 @@ module _ (m c : ℕ) where
       ap (times2 m) (e ∙ F.mul_comm m c (2 ^ i)) ∙ sym (F.mul_times2_l m (2 ^ i) c) ∙ F.mul_comm m (times2 m (2 ^ i)) c
       ∙ ap (mul m c) (F.times2_pow m i h)
 
-  module _ {i size step : ℕ} {row row' : List ℕ} (h : i < m) (f : Filled m c i size step row)
-      (d : Doubled size step size row row') where
-    upper : (x : ℕ) → size ≤ x → get_or row' x 0 ≡ get_or row' (size + (x - size)) 0
-    upper x k = let e : x ≡ size + (x - size) = omega arith in ap (λ (y : ℕ). get_or row' y 0) e
+  module _ {i step : ℕ} {row row' : List ℕ} (h : i < m) (f : Filled m c i step row)
+      (d : Doubled (2 ^ i) step (2 ^ i) row row') where
+    upper : (x : ℕ) → 2 ^ i ≤ x → get_or row' x 0 ≡ get_or row' (2 ^ i + (x - 2 ^ i)) 0
+    upper x k = let e : x ≡ 2 ^ i + (x - 2 ^ i) = omega arith in ap (λ (y : ℕ). get_or row' y 0) e
 
-    fill_at : (x : ℕ) → x < size * 2 → get_or row' x 0 ≡ mul m c x
+    fill_at : (x : ℕ) → x < 2 ^ suc i → get_or row' x 0 ≡ mul m c x
     fill_at x l =
-        ⊎_elim (λ k. d.low x k ∙ f.at x (omega (arith, f.count)))
-        (λ k. upper x k ∙ d.high (x - size) (omega arith)
-        ∙ ap₂ add (f.at (x - size) (omega (arith, f.count))) (f.next h)
-        ∙ one_more i (x - size) (omega (arith, f.count))
-        ∙ ap (mul m c) (omega (arith, f.count)))
-        (lt_or_le x size)
+        ⊎_elim (λ k. d.low x k ∙ f.at x k)
+        (λ k. upper x k ∙ d.high (x - 2 ^ i) (omega (arith, pow-suc 2 i))
+        ∙ ap₂ add (f.at (x - 2 ^ i) (omega (arith, pow-suc 2 i))) (f.next h)
+        ∙ one_more i (x - 2 ^ i) (omega (arith, pow-suc 2 i))
+        ∙ ap (mul m c) (omega arith))
+        (lt_or_le x (2 ^ i))
 
     fill_small : (x : ℕ) → get_or row' x 0 < 2 ^ m
     fill_small x =
         ⊎_elim (λ k. rw (d.low x k) (f.small x))
         (λ k. ⊎_elim
-        (λ (l : x < size + size). rw (upper x k ∙ d.high (x - size) (omega arith))
-        (F.add_lt m _ step (f.small (x - size)) f.small_step))
+        (λ (l : x < 2 ^ i + 2 ^ i). rw (upper x k ∙ d.high (x - 2 ^ i) (omega arith))
+        (F.add_lt m _ step (f.small (x - 2 ^ i)) f.small_step))
         (λ l. rw (d.rest x l) (f.small x))
-        (lt_or_le x (size + size)))
-        (lt_or_le x size)
+        (lt_or_le x (2 ^ i + 2 ^ i)))
+        (lt_or_le x (2 ^ i))
 
-    twice : size * 2 ≡ 2 ^ suc i
-    twice = ap (λ (y : ℕ). y * 2) f.count ∙ sym (pow-suc 2 i)
-
-    pub next_fill : {step' : ℕ} → Element m (times2 m step) step' → Filled m c (i + 1) (size * 2) step' row'
+    pub next_fill : {step' : ℕ} → Element m (times2 m step) step' → Filled m c (i + 1) step' row'
     next_fill e = rw (add-one i) (record {
-      place = h;
-      count = twice;
       long = d.long ∙ f.long;
-      at = rw twice at fill_at;
+      at = fill_at;
       small = fill_small;
       next = λ l. e.is ∙ next_step i step l (f.next h);
       small_step = e.small;
     })
-
-  pub room : {i size step : ℕ} {row : List ℕ} → Width m → i < m → Filled m c i size step row → size + size ≤ 256
-  room {i} w h f = omega (arith, f.count, pow-suc 2 i, pow_mono {i = suc i} h, field_top m w)
-
-  pub last_fill : {i size step : ℕ} {row : List ℕ} → m ≤ i → Filled m c i size step row → Products m c row
-  last_fill {i} h f =
-      let e : i ≡ m = omega (arith, f.place) in
-      record { size = f.long; at = rw e at f.at; small = f.small }

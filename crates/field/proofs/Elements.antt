@@ -1,5 +1,5 @@
 -- What products, inverses and powers come to, by the powers of 2.
-use mathlib.Core.Path.{◌≡◌, sym, ap, ap₂, ◌∙◌, subst}
+use mathlib.Core.Path.{◌≡◌, sym, ap, ap₂, ◌∙◌}
 use mathlib.Core.List.{List}
 use Prim.Native.Nat.{ℕ, ◌+◌, ◌*◌, ◌-◌, ◌^◌, ◌<◌}
 use lib.ListN.{get_or}
@@ -7,19 +7,11 @@ use lib.Pow.{pow_pos}
 use Rattle.defs.specs.Field.{Width, mul, pow}
 use Rattle.theory.proofs.Field as F
 use Rattle.theory.proofs.Generator.{one_lt, inverse_power}
-use Rattle.field.specs.Arithmetic.{Element, Inverse, Powers, Logarithm, Logarithms}
+use Rattle.field.specs.Arithmetic.{Element, Inverse, Powers, Logarithm}
 
--- what the table of one width says, said of m
-pub power_in : (m : ℕ) → Width m → {n : ℕ} {table : List ℕ} → m ≡ n → Powers n table
+pub power_in : (m : ℕ) → Width m → {table : List ℕ} → Powers m table
     → (i : ℕ) → i < 2 * (2 ^ m - 1) → Element m (pow m 2 i) (get_or table i 0)
-power_in m w {n} {table} e p i h = record { is = q; small = rw q (F.pow-lt m 2 i (one_lt m w)) }
-  where
-    q : get_or table i 0 ≡ pow m 2 i
-    q = (subst (λ (k : ℕ). Powers k table) (sym e) p).at i h
-
-pub logarithm_in : (m : ℕ) {n : ℕ} {table : List ℕ} → m ≡ n → Logarithms n table
-    → (a : ℕ) → (a < 2 ^ m) × (a ≡ 0 → ⊥) → Logarithm m a (get_or table a 0)
-logarithm_in m {n} {table} e p a h = (subst (λ (k : ℕ). Logarithms k table) (sym e) p).at a h.0 h.1
+power_in m w p i h = record { is = p.at i h; small = rw (p.at i h) (F.pow-lt m 2 i (one_lt m w)) }
 
 pub zero_l : (m a b : ℕ) → a ≡ 0 → Element m (mul m a b) 0
 zero_l m a b e = record { is = sym (ap (λ (x : ℕ). mul m x b) e ∙ F.0-mul m b); small = pow_pos m }

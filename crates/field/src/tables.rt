@@ -1,21 +1,22 @@
 // The tables: powers of 2 and logarithms in each field. Each rule is proved over the whole table.
+// There are two for each of the three fields, since their entries are what differs.
 
 // How many elements the fields have, each of which has an entry among the logarithms.
-pub const ELEMENTS4: usize = 4;
+const ELEMENTS4: usize = 4;
 
-pub const ELEMENTS16: usize = 16;
+const ELEMENTS16: usize = 16;
 
-pub const ELEMENTS: usize = 256;
+const ELEMENTS: usize = 256;
 
 // How many powers of 2 are kept: twice round, so that the sum of two logarithms finds its power.
-pub const POWERS4: usize = 2 * (ELEMENTS4 - 1);
+const POWERS4: usize = 2 * (ELEMENTS4 - 1);
 
-pub const POWERS16: usize = 2 * (ELEMENTS16 - 1);
+const POWERS16: usize = 2 * (ELEMENTS16 - 1);
 
 pub const POWERS: usize = 2 * (ELEMENTS - 1);
 
 // 2^i at i, in the field with 256 elements.
-pub const EXP: [u8; POWERS] = [
+pub static EXP: [u8; POWERS] = [
     1, 2, 4, 8, 16, 32, 64, 128, 29, // 2^8, the first that is reduced
     58, 116, 232, 205, 135, 19, 38, 76, 152, 45, 90, 180, 117, 234, 201, 143, 3, 6, 12, 24, 48, 96,
     192, 157, 39, 78, 156, 37, 74, 148, 53, 106, 212, 181, 119, 238, 193, 159, 35, 70, 140, 5, 10,
@@ -45,7 +46,7 @@ pub const EXP: [u8; POWERS] = [
 ];
 
 // The power of 2 that a is, at a. The entry at 0 means nothing.
-pub const LOG: [u8; ELEMENTS] = [
+pub static LOG: [u8; ELEMENTS] = [
     0, 0, 1, 25, 2, 50, 26, 198, 3, 223, 51, 238, 27, 104, 199, 75, 4, 100, 224, 14, 52, 141, 239,
     129, 28, 193, 105, 248, 200, 8, 76, 113, 5, 138, 101, 47, 225, 36, 15, 33, 53, 147, 142, 218,
     240, 18, 130, 69, 29, 181, 194, 125, 106, 39, 249, 185, 201, 154, 9, 120, 77, 228, 114, 166, 6,
@@ -62,16 +63,16 @@ pub const LOG: [u8; ELEMENTS] = [
 ];
 
 // 2^i at i, in the field with 4 elements.
-pub const EXP4: [u8; POWERS4] = [1, 2, 3, 1, 2, 3];
+pub static EXP4: [u8; POWERS4] = [1, 2, 3, 1, 2, 3];
 
 // The power of 2 that a is in the field with 4 elements, at a. The entry at 0 means nothing.
-pub const LOG4: [u8; ELEMENTS4] = [0, 0, 1, 2];
+pub static LOG4: [u8; ELEMENTS4] = [0, 0, 1, 2];
 
 // 2^i at i, in the field with 16 elements.
-pub const EXP16: [u8; POWERS16] = [
+pub static EXP16: [u8; POWERS16] = [
     1, 2, 4, 8, 3, 6, 12, 11, 5, 10, 7, 14, 15, 13, 9, 1, 2, 4, 8, 3, 6, 12, 11, 5, 10, 7, 14, 15,
     13, 9,
 ];
 
 // The power of 2 that a is in the field with 16 elements, at a. The entry at 0 means nothing.
-pub const LOG16: [u8; ELEMENTS16] = [0, 0, 1, 4, 2, 8, 5, 10, 3, 14, 9, 7, 6, 13, 11, 12];
+pub static LOG16: [u8; ELEMENTS16] = [0, 0, 1, 4, 2, 8, 5, 10, 3, 14, 9, 7, 6, 13, 11, 12];

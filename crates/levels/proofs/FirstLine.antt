@@ -5,7 +5,8 @@ use mathlib.Core.Path.{◌≡◌, refl, ap, sym, ◌∙◌}
 use mathlib.Core.List.{List, [], ◌∷◌, ◌++◌}
 use native.Mathlib.Omega.{arith}
 use lib.Dec.{eqb, ltb}
-use lib.ListN.{length, get_or, take, drop}
+use lib.ListN.{length, get_or, take, drop, length-append, get_or-eq_default}
+use native.Mathlib.Decide.{dec_lt}
 use borrow.Author.Tests.{eqb-true, eqb-false, eq-eqb, ne_eqb, ltb-true, lt-ltb, le-ltb}
 use Rattle.defs.specs.Text.{is_digit, digit_count, value_from}
 use Rattle.defs.specs.Levels.{line_from, lines, written}
@@ -58,6 +59,21 @@ head_behind (b ∷ s) = go (eqb b 10) (head_behind s)
     go : (n : Bool) → head_line s ++ behind s ≡ s → cond n (b ∷ []) (b ∷ head_line s) ++ cond n s (behind s) ≡ b ∷ s
     go true e = refl
     go false e = ap (λ (t : List ℕ). b ∷ t) e
+
+head_some : (b : ℕ) (s : List ℕ) → 0 < length (head_line (b ∷ s))
+unfolding head_line
+head_some b s = go (eqb b 10)
+  where
+    go : (n : Bool) → 0 < length (cond n (b ∷ []) (b ∷ head_line s))
+    go true = omega arith
+    go false = omega arith
+
+pub behind_short : (s : List ℕ) → 0 < length s → length (behind s) < length s
+behind_short [] l = absurd (omega arith)
+behind_short (b ∷ s) l = go (head_some b s) (head_behind (b ∷ s))
+  where
+    go : 0 < length (head_line (b ∷ s)) → head_line (b ∷ s) ++ behind (b ∷ s) ≡ b ∷ s → length (behind (b ∷ s)) < length (b ∷ s)
+    go p e = omega (arith, ap length e, length-append (head_line (b ∷ s)) (behind (b ∷ s)))
 
 -- ---- the digits in front of it are those in front of the text
 
@@ -112,6 +128,13 @@ count_within (b ∷ s) = go (is_digit b) (count_within s)
     go false h = zero-le
 
 -- ---- a newline behind them ends the line
+
+pub newline_within : (s : List ℕ) (i : ℕ) → get_or s i 0 ≡ 10 → i < length s
+newline_within s i e = go (dec_lt i (length s))
+  where
+    go : Dec (i < length s) → i < length s
+    go (yes l) = l
+    go (no n) = let z : get_or s i 0 ≡ 0 = get_or-eq_default s 0 {n = i} (omega arith) in absurd (omega arith)
 
 pub ended_behind : (s : List ℕ) → get_or s (digit_count s) 0 ≡ 10 → behind s ≡ drop (suc (digit_count s)) s
 unfolding behind digit_count

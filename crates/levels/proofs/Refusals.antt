@@ -24,19 +24,19 @@ module _ {P : Refusal → Type 0} (field : P Field) (depth : P Depth) (long : P 
     lines_every bound i [] = every_fine
     lines_every bound i (line ∷ rest) =
         every_then (level_verdict bound i line) _ (every_plain _ _ _ (bad i) (every_plain _ _ _ (high i) every_fine))
-        (λ fine. lines_every bound (suc i) rest)
+        (λ is_fine. lines_every bound (suc i) rest)
 
     pub read_every : (m r : ℕ) (text : List ℕ) (n : ℕ) → Every P (levels_read_verdict m r text n)
     unfolding levels_read_verdict
     read_every m r text n =
         every_then (shape_verdict m r n) _ (shape_every m r n)
-        (λ fine. every_then (lines_verdict ((2 ^ m) ^ r) 0 (lines text)) _ (lines_every ((2 ^ m) ^ r) 0 (lines text))
+        (λ is_fine. every_then (lines_verdict ((2 ^ m) ^ r) 0 (lines text)) _ (lines_every ((2 ^ m) ^ r) 0 (lines text))
         (λ good. every_plain _ _ _ long every_fine))
 
   pub write_every : ((i : ℕ) → i < longest → P (SymbolHigh i)) → (m r : ℕ) (w : List ℕ) (size : ℕ) → Every P (levels_write_verdict m r w size)
   unfolding levels_write_verdict symbols_verdict text_verdict
   write_every symbol m r w size =
       every_then (shape_verdict m r (length w)) _ (shape_every m r (length w))
-      (λ fine. every_then (symbols_verdict m w) _
-      (every_place (first_high m w) (length w) _ _ (λ l. symbol _ (omega (arith, (shape_known m r (length w) fine).n_top))) every_fine)
+      (λ is_fine. every_then (symbols_verdict m w) _
+      (every_place (first_high m w) (length w) _ _ (λ l. symbol _ (omega (arith, (shape_known m r (length w) is_fine).n_top))) every_fine)
       (λ low. every_plain _ _ _ long every_fine))

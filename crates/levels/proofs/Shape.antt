@@ -1,33 +1,30 @@
 -- The check of a field, a depth and the length of a row: its ways out, and what it says in plain facts, both ways.
 use Prim.Native.Nat.{ℕ, ◌%◌, ◌^◌, ◌<◌, ◌≤◌}
-use mathlib.Core.Bool.{Bool, true, false, ◌||◌, not}
-use mathlib.Core.Path.{◌≡◌, refl, sym, ◌∙◌}
+use mathlib.Core.Bool.{true, false, ◌||◌, not}
+use mathlib.Core.Path.{◌≡◌, refl}
 use native.Mathlib.Omega.{arith}
 use lib.Dec.{eqb, ltb}
-use lib.Pow.{pow-lt}
 use borrow.Author.Tests.{eqb-true, eqb-false, eq-eqb, ne_eqb, ltb-false, le-ltb, not-false}
 use Rattle.defs.specs.Field.{Width}
-use Rattle.defs.specs.Refusal.{refuse}
+use Rattle.defs.specs.Refusal.{refuse, fine}
 use Rattle.defs.specs.Limits.{is_width, deepest, longest}
 use Rattle.defs.specs.Encode.{distance_verdict}
 use Rattle.defs.specs.Levels.{shape_verdict}
 use Rattle.defs.specs.declared.Refusal.TheVariants.{Field}
-use Rattle.defs.specs.declared.Verdict.{Verdict}
-use Rattle.defs.specs.declared.Verdict.TheVariants.{Fine, Refused}
 use Rattle.theory.proofs.Limits.{width_known, width_is}
 use Rattle.theory.proofs.Verdict.{or_false, refuse_fine}
-use Rattle.theory.proofs.Width.{width_pos, field_top}
 use Rattle.levels.specs.Base.{Base}
+use Rattle.levels.proofs.Words.{base_of}
+use Rattle.std.proofs.Common.{Err}
 
--- b is what the test of m found
-module _ (m r n : ℕ) (b : Bool) (found : b ≡ is_width m) where
-  pub shape_field : b ≡ false → Refused Field ≡ shape_verdict m r n
+module _ (m r n : ℕ) where
+  pub shape_field : is_width m ≡ false → shape_verdict m r n ≡ Err Field
   unfolding shape_verdict refuse
-  shape_field t = rw (sym found ∙ t)
+  shape_field e = rw e
 
-  pub shape_rest : b ≡ true → (v : Verdict) → v ≡ distance_verdict r n n → v ≡ shape_verdict m r n
+  pub shape_rest : is_width m ≡ true → shape_verdict m r n ≡ distance_verdict r n n
   unfolding shape_verdict refuse
-  shape_rest t v e = rw (sym found ∙ t) e
+  shape_rest e = rw e
 
 -- a row of n symbols and its depth
 pub record Shape (m r n : ℕ) : Type 0 where
@@ -39,7 +36,7 @@ pub record Shape (m r n : ℕ) : Type 0 where
   pub whole : n % r ≡ 0
 
 module _ (m r n : ℕ) where
-  pub shape_known : shape_verdict m r n ≡ Fine → Shape m r n
+  pub shape_known : shape_verdict m r n ≡ fine → Shape m r n
   unfolding shape_verdict distance_verdict
   shape_known e =
       let e1 = refuse_fine _ _ _ e in
@@ -58,7 +55,7 @@ module _ (m r n : ℕ) where
         whole = eqb-true (n % r) 0 (not-false _ n2.1);
       }
 
-  pub shape_fine : Shape m r n → shape_verdict m r n ≡ Fine
+  pub shape_fine : Shape m r n → shape_verdict m r n ≡ fine
   unfolding shape_verdict distance_verdict refuse
   shape_fine s =
       rw (
@@ -73,9 +70,4 @@ module _ (m r n : ℕ) where
 
   -- its levels are machine words
   pub shape_base : Shape m r n → Base (2 ^ m) r
-  shape_base s = record {
-    more = pow-lt {i = 0} (width_pos m s.width);
-    small = field_top m s.width;
-    some = s.r_pos;
-    depth = s.r_top;
-  }
+  shape_base s = base_of m r (2 ^ m) s.width (s.r_pos, s.r_top) refl

@@ -1,22 +1,32 @@
 -- Levels as machine words: the highest, one that is put together from a chunk, and one that is taken apart.
-use Prim.Native.Nat.{ℕ, ◌+◌, ◌*◌, ◌-◌, ◌/◌, ◌%◌, ◌^◌, ◌<◌, ◌≤◌}
+use Prim.Native.Nat.{ℕ, suc, ◌+◌, ◌*◌, ◌-◌, ◌/◌, ◌%◌, ◌^◌, ◌<◌, ◌≤◌}
 use mathlib.Core.Path.{◌≡◌, ap, sym, ◌∙◌}
 use mathlib.Core.List.{List}
-use native.Mathlib.Nat.{le_trans, add-mul, one-mul, pow-zero, pow-suc, pow-le-pow_left, pow-le-pow_right, div-one, div-div-eq-div-mul}
-use native.Mathlib.Decide.{dec_lt}
+use native.Mathlib.Nat.{le_trans, add-mul, one-mul, pow-suc, pow-le-pow_left, pow-le-pow_right, div-div-eq-div-mul}
 use native.Nat.{ℕᴺ_discrete}
 use native.Mathlib.Numerals.{add-one}
 use native.Mathlib.Omega.{arith}
 use lib.Dec.{lit<}
-use lib.ListN.{length, get_or, set, replicate, length-set, length-replicate}
+use lib.ListN.{length, get_or, set, length-set}
 use lib.Seq.{ext_get_or, get_or-set_same, get_or-set_other}
 use Rattle.defs.specs.Limits.{deepest}
 use Rattle.defs.specs.Levels.{level}
-use Rattle.theory.proofs.Place.{zeros_zero}
-use Rattle.code.specs.Chunk.{chunk_of}
-use Rattle.code.proofs.Chunks.{length_chunk, chunk_at, chunk_behind}
-use Rattle.levels.specs.Base.{Base, Low}
+use Rattle.theory.proofs.Place.{length_tab, get_d_tab}
+use Rattle.theory.proofs.Width.{width_pos, field_top}
+use Rattle.defs.specs.Field.{Width}
+use lib.Pow.{pow-lt}
+use Rattle.defs.specs.Place.{tab}
+use Rattle.levels.specs.Base.{Base}
 use Rattle.levels.proofs.Horner.{level_more, level_low}
+
+-- a field and a depth
+pub base_of : (m r q : ℕ) → Width m → (0 < r) × (r ≤ deepest) → q ≡ 2 ^ m → Base q r
+base_of m r q w d e = record {
+  more = rw e (pow-lt {i = 0} (width_pos m w));
+  small = rw e (field_top m w);
+  some = d.0;
+  depth = d.1;
+}
 
 module _ (q r : ℕ) (b : Base q r) where
   -- q ^ j is at most 256 ^ 8
@@ -24,9 +34,6 @@ module _ (q r : ℕ) (b : Base q r) where
   word j l = le_trans (pow-le-pow_left b.small j) (pow-le-pow_right {n = 256} (lit< tt) {i = j} {j = 8} (omega (arith, b.depth)))
 
   -- ---- the highest
-
-  pub highest_none : 0 + 1 ≡ q ^ 0
-  highest_none = sym (pow-zero q)
 
   module _ (top j : ℕ) (e : top + 1 ≡ q ^ j) (l : j < r) where
     pub highest_more : top * q + (q - 1) + 1 ≡ q ^ (j + 1)
@@ -39,7 +46,7 @@ module _ (q r : ℕ) (b : Base q r) where
 
   -- ---- put together
 
-  module _ (chunk : List ℕ) (low : Low q r chunk) (v j : ℕ) (e : v ≡ level q j (λ i. get_or chunk i 0)) (l : j < r) where
+  module _ (chunk : List ℕ) (low : (i : ℕ) → get_or chunk i 0 < q) (v j : ℕ) (e : v ≡ level q j (λ i. get_or chunk i 0)) (l : j < r) where
     pub level_grows : v * q + get_or chunk j 0 ≡ level q (j + 1) (λ i. get_or chunk i 0)
     level_grows =
         ap (λ (x : ℕ). x * q + get_or chunk j 0) e ∙ sym (level_more q j (λ i. get_or chunk i 0))
@@ -47,7 +54,7 @@ module _ (q r : ℕ) (b : Base q r) where
 
     pub level_fits : v * q + get_or chunk j 0 < 2 ^ 64
     level_fits =
-        omega (arith, level_grows, level_low q (j + 1) (λ i. get_or chunk i 0) (λ i k. low.below i (omega arith)), word (j + 1) (omega arith))
+        omega (arith, level_grows, level_low q (j + 1) (λ i. get_or chunk i 0) (λ i k. low i), word (j + 1) (omega arith))
 
 -- ---- taken apart
 
@@ -55,47 +62,33 @@ module _ (q r : ℕ) (b : Base q r) where
 abbrev pub digit_at : ℕ → ℕ → ℕ → ℕ → ℕ
 digit_at q r v j = v / q ^ (r - 1 - j) % q
 
--- the last digits are written, and what is left of v is rest
-pub record Apart (q r v done rest : ℕ) (chunk : List ℕ) : Type 0 where
-  pub within : done ≤ r
-  pub rest_is : rest ≡ v / q ^ done
-  pub size : length chunk ≡ deepest
-  pub written : (i : ℕ) → i < r → r ≤ i + done → get_or chunk i 0 ≡ digit_at q r v i
-  pub unused : (i : ℕ) → r ≤ i → get_or chunk i 0 ≡ 0
+-- the last digits are written from the place j on, and what is left of v is rest
+pub record Apart (q r v j rest : ℕ) (chunk : List ℕ) : Type 0 where
+  pub rest_is : rest ≡ v / q ^ (r - j)
+  pub size : length chunk ≡ r
+  pub written : (i : ℕ) → i < r → j ≤ i → get_or chunk i 0 ≡ digit_at q r v i
 
 module _ (q r v : ℕ) where
-  pub apart_first : Apart q r v 0 v (replicate deepest 0)
-  apart_first = record {
-    within = omega arith;
-    rest_is = sym (ap (λ (x : ℕ). v / x) (pow-zero q) ∙ div-one v);
-    size = length-replicate {A = ℕ} deepest 0;
-    written = λ i l h. absurd (omega arith);
-    unused = λ i h. zeros_zero deepest i;
-  }
-
-  module _ (done rest : ℕ) (chunk : List ℕ) (h : Apart q r v done rest chunk) where
-    pub apart_more : done < r → r ≤ deepest → Apart q r v (done + 1) (rest / q) (set chunk (r - 1 - done) (rest % q))
-    apart_more l d = record {
-      within = omega arith;
-      rest_is =
-          ap (λ (x : ℕ). x / q) h.rest_is ∙ div-div-eq-div-mul v (q ^ done) q
-          ∙ ap (λ (x : ℕ). v / x) (sym (pow-suc q done)) ∙ ap (λ (x : ℕ). v / q ^ x) (sym (add-one done));
-      size = length-set chunk (r - 1 - done) (rest % q) ∙ h.size;
-      written = λ i k m. at i k m (ℕᴺ_discrete i (r - 1 - done));
-      unused = λ i k. get_or-set_other chunk (r - 1 - done) i (rest % q) 0 (λ e. omega arith) ∙ h.unused i k;
+  module _ (j rest : ℕ) (chunk : List ℕ) where
+    pub apart_more : 0 < j → j ≤ r → Apart q r v j rest chunk → Apart q r v (j - 1) (rest / q) (set chunk (j - 1) (rest % q))
+    apart_more p l h = record {
+      rest_is = ap (λ (x : ℕ). x / q) h.rest_is ∙ div-div-eq-div-mul v (q ^ (r - j)) q ∙ ap (λ (x : ℕ). v / x) power;
+      size = length-set chunk (j - 1) (rest % q) ∙ h.size;
+      written = λ i k m. at i k m (ℕᴺ_discrete i (j - 1));
     }
       where
-        at : (i : ℕ) → i < r → r ≤ i + (done + 1) → Dec (i ≡ r - 1 - done) → get_or (set chunk (r - 1 - done) (rest % q)) i 0 ≡ digit_at q r v i
-        at i k m (yes e) =
-            let f : done ≡ r - 1 - i = omega arith in
-            ap (λ (x : ℕ). get_or (set chunk (r - 1 - done) (rest % q)) x 0) e
-            ∙ get_or-set_same chunk (r - 1 - done) (rest % q) 0 (omega (arith, h.size))
-            ∙ ap (λ (x : ℕ). x % q) h.rest_is ∙ ap (λ (x : ℕ). v / q ^ x % q) f
-        at i k m (no n) = get_or-set_other chunk (r - 1 - done) i (rest % q) 0 n ∙ h.written i k (omega arith)
+        power : q ^ (r - j) * q ≡ q ^ (r - (j - 1))
+        power = let e : r - (j - 1) ≡ suc (r - j) = omega arith in sym (rw e (pow-suc q (r - j)))
 
-    pub apart_last : r ≤ done → r ≤ deepest → chunk ≡ chunk_of r (digit_at q r v)
-    apart_last l d = ext_get_or 0 chunk _ (h.size ∙ sym (length_chunk r (digit_at q r v) d)) (λ i k. at i (dec_lt i r))
-      where
-        at : (i : ℕ) → Dec (i < r) → get_or chunk i 0 ≡ get_or (chunk_of r (digit_at q r v)) i 0
-        at i (yes k) = h.written i k (omega arith) ∙ sym (chunk_at r (digit_at q r v) i k)
-        at i (no k) = h.unused i (omega arith) ∙ sym (chunk_behind r (digit_at q r v) i (omega arith))
+        at : (i : ℕ) → i < r → j - 1 ≤ i → Dec (i ≡ j - 1) → get_or (set chunk (j - 1) (rest % q)) i 0 ≡ digit_at q r v i
+        at i k m (yes e) =
+            let f : r - j ≡ r - 1 - i = omega arith in
+            ap (λ (x : ℕ). get_or (set chunk (j - 1) (rest % q)) x 0) e
+            ∙ get_or-set_same chunk (j - 1) (rest % q) 0 (omega (arith, h.size))
+            ∙ ap (λ (x : ℕ). x % q) h.rest_is ∙ ap (λ (x : ℕ). v / q ^ x % q) f
+        at i k m (no n) = get_or-set_other chunk (j - 1) i (rest % q) 0 n ∙ h.written i k (omega arith)
+
+    pub apart_last : j ≤ 0 → Apart q r v j rest chunk → chunk ≡ tab (digit_at q r v) r
+    apart_last l h =
+        ext_get_or 0 chunk _ (h.size ∙ sym (length_tab (digit_at q r v) r))
+        (λ i k. let n : i < r = omega (arith, h.size) in h.written i n (omega arith) ∙ sym (get_d_tab (digit_at q r v) r i n))

@@ -1,53 +1,57 @@
 // The level of a chunk, and the chunk of a level.
-ghost use Rattle.std.specs.Prelude.{◌≡◌, ◌+◌, ◌-◌, ◌/◌, ◌%◌, ◌^◌, get_or};
+ghost use Rattle.std.specs.Prelude.{◌≡◌, ◌+◌, ◌-◌, ◌/◌, ◌%◌, ◌^◌, ◌<◌, ◌≤◌, length, get_or};
+ghost use Rattle.defs.specs.Limits.{deepest};
+ghost use Rattle.defs.specs.Place.{tab, Symbols};
 ghost use Rattle.defs.specs.Levels.{level};
-ghost use Rattle.code.specs.Chunk.{chunk_of};
-ghost use Rattle.levels.specs.Base.{Base, Low};
 
-use defs::DEEPEST;
+use field::Field;
 
-// The highest level, one below q ^ r, which may be 2 ^ 64.
-pub fn highest(q: usize, r: usize) -> usize
-    requires { Base q r }
-    ensures { result + 1 ≡ q ^ r }
-{
-    let mut top = 0;
-    let mut j = 0;
-    while j < r {
-        top = top * q + (q - 1);
-        j += 1;
-    }
-    top
+// Chunks of r symbols of a field, whose levels go up to one below its size to the power r, which may be 2 ^ 64.
+#[derive(Clone, Copy)]
+pub struct Scale {
+    pub field: Field,
+    pub r: usize,
+    pub ghost depth: { (0 < r) × (r ≤ deepest) },
 }
 
-// The level of a chunk: symbol after symbol, the last one with the weight 1.
-pub fn level_of(chunk: [u8; DEEPEST], q: usize, r: usize) -> usize
-    requires base { Base q r }
-    requires low { Low q r chunk }
-    ensures { result ≡ level q r (λ j. get_or chunk j 0) }
-{
-    let mut v = 0;
-    let mut j = 0;
-    while j < r {
-        v = v * q + chunk[j] as usize;
-        j += 1;
+impl Scale {
+    // The highest level.
+    pub fn highest(self) -> usize
+        ensures { result + 1 ≡ (2 ^ self.field.m) ^ self.r }
+    {
+        let q = self.field.size();
+        let mut top = 0;
+        for _ in 0..self.r {
+            top = top * q + (q - 1);
+        }
+        top
     }
-    v
-}
 
-// The chunk of a level: its digits to the base q, the last one first.
-pub fn chunk_at(v: usize, q: usize, r: usize) -> [u8; DEEPEST]
-    requires { Base q r }
-    ensures { result ≡ chunk_of r (λ j. v / q ^ (r - 1 - j) % q) }
-{
-    let mut chunk = [0u8; DEEPEST];
-    let mut rest = v;
-    let mut done = 0;
-    while done < r {
-        let j = r - 1 - done;
-        chunk[j] = (rest % q) as u8;
-        rest = rest / q;
-        done += 1;
+    // The level of a chunk: symbol after symbol, the last one with the weight 1.
+    pub fn level_of(self, chunk: &[u8]) -> usize
+        requires size { length chunk.now ≡ self.r }
+        requires symbols { Symbols self.field.m chunk.now }
+        ensures { result ≡ level (2 ^ self.field.m) self.r (λ j. get_or chunk.now j 0) }
+    {
+        let q = self.field.size();
+        let mut v = 0;
+        for &symbol in chunk {
+            v = v * q + usize::from(symbol);
+        }
+        v
     }
-    chunk
+
+    // Writes the chunk of a level: its digits to the base of the field's size, the last one first.
+    pub fn put_chunk(self, v: usize, chunk: &mut [u8])
+        requires { length chunk.old ≡ self.r }
+        ensures { chunk.new ≡ tab (λ j. v / (2 ^ self.field.m) ^ (self.r - 1 - j) % (2 ^ self.field.m)) self.r }
+    {
+        let q = self.field.size();
+        let mut rest = v;
+        for j in (0..self.r).rev() {
+            // It fits, as is proved; try_from would bring a branch that no run takes.
+            chunk[j] = (rest % q) as u8;
+            rest /= q;
+        }
+    }
 }

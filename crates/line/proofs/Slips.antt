@@ -26,13 +26,13 @@ module _ {P : Refusal → Type 0} (told : (x : Refusal) → readers (number_of x
   head_every =
       every_then (first_verdict bytes) _
       (first_every is_edition bytes (told SlipShort refl (lit< tt)) (told Edition refl (lit< tt)) (told Field refl (lit< tt)) (told Points refl (lit< tt)) (told Dimension refl (lit< tt)))
-      (λ fine. every_plain _ _ _ (told SlipLong refl (lit< tt)) every_fine)
+      (λ is_fine. every_plain _ _ _ (told SlipLong refl (lit< tt)) every_fine)
 
   pub read_every : (count n : ℕ) → Every P (read_verdict bytes count n)
   unfolding read_verdict
   read_every count n =
       every_then (head_verdict bytes) _ head_every
-      (λ fine. every_plain _ _ _ (told SlipBits refl (lit< tt))
+      (λ is_fine. every_plain _ _ _ (told SlipBits refl (lit< tt))
       (every_place (first_twice (points_in bytes)) (count_in bytes) _ _
-      (λ l. told (PointTwice _) refl (omega (arith, points_few bytes (sound bytes fine))))
+      (λ l. told (PointTwice _) refl (omega (arith, points_few bytes (sound bytes is_fine))))
       (every_plain _ _ _ (told Length refl (lit< tt)) every_fine)))

@@ -4,8 +4,8 @@ use mathlib.Core.Path.{◌≡◌, refl, ap, sym, subst, ◌∙◌}
 use mathlib.Core.Logic.{⊎_elim}
 use mathlib.Core.List.{List, ◌++◌}
 use native.Mathlib.Nat.{mul_comm, div-add-mod', mod-lt, div-lt_iff_lt-mul, zero-add}
-use native.Mathlib.Numerals.{add-one}
 use native.Mathlib.Omega.{arith}
+use Rattle.std.specs.Prelude.{None}
 use lib.ListN.{length, get_or, take, get_or-eq_default, get_or-append}
 use lib.Seq.{get_or-append-add}
 use lib.Pow.{pow_pos}
@@ -13,18 +13,17 @@ use Rattle.defs.specs.Place.{tab, Symbols}
 use Rattle.defs.specs.Distance.{radius, reach}
 use Rattle.defs.specs.Pair.{mixed, IsPair}
 use Rattle.defs.specs.Limits.{longest}
-use Rattle.defs.specs.declared.Refusal.TheVariants.{TooFar}
-use Rattle.defs.specs.declared.Verdict.TheVariants.{Fine, Refused}
 use Rattle.defs.specs.declared.Code.{Code}
 use Rattle.theory.proofs.Order.{lt_or_le, eq_lt}
 use Rattle.theory.proofs.Place.{length_tab, get_d_tab}
 use Rattle.code.specs.Checked.{points_of, IsCode}
+use Rattle.code.proofs.Outcome.{is_code}
 use Rattle.code.proofs.Known.{code_numbers}
-use Rattle.solve.specs.Table.{stride, at}
+use Rattle.solve.specs.Table.{at}
 use Rattle.solve.specs.System.{Matrix, dot, Solves, free}
 use Rattle.solve.specs.Answer.{IsFree, IsFull}
 use Rattle.pair.specs.Fill.{System}
-use Rattle.pair.specs.Found.{IsRow, front₁, Found, found, none}
+use Rattle.pair.specs.Found.{IsRow, Found}
 use Rattle.pair.proofs.Expand.{Joined, row_mixed}
 use Rattle.pair.proofs.Systems.{chunk_fits}
 
@@ -53,7 +52,7 @@ module _ {m r s₀ s₁ : ℕ} (k : ℕ) {points w t : List ℕ} (S : System m r
           ap x e ∙ J.second (c - s₀) (omega arith) ∙ z₁ (c - s₀))
           (lt_or_le c s₀) in
           omega arith;
-      vanishes = λ i l j h. sym (at_depth o₀ o₁ i j l h) ∙ solves (i * r + j) (omega (arith, chunk_fits r i (length points) (i * r) refl l));
+      vanishes = λ i l j h. sym (at_depth o₀ o₁ i j l h) ∙ solves (i * r + j) (omega (arith, chunk_fits r i (length points) l));
     }
       where
         o₀ : Symbols m Q₀
@@ -112,63 +111,41 @@ tabs_joined x s₀ s₁ = record {
   second = λ a l. sym (get_d_tab (λ i. x (s₀ + i)) s₁ a l);
 }
 
--- n equations, and s₀ and s₁ unknowns, fit into the table
-pub record Sizes (n s₀ s₁ : ℕ) : Type 0 where
-  pub top : n ≤ longest
-  pub small : s₁ ≤ s₀
-  pub fits : s₀ + s₁ ≤ stride
-  pub top₀ : s₀ ≤ longest
-  pub top₁ : s₁ ≤ longest
+pub enough : {c : Code} {w : List ℕ} → IsRow c w → c.k ≤ length w
+enough {c} W = omega (arith, (code_numbers (is_code c)).k_top, W.size)
 
-pub enough : {c : Code} {w : List ℕ} → IsCode c → IsRow c w → c.k ≤ length w
-enough C W = omega (arith, (code_numbers C).k_top, W.size)
+pub short : {c : Code} {w : List ℕ} → IsRow c w → length w ≤ longest
+short {c} W = omega (arith, (code_numbers (is_code c)).row_top, W.size)
 
-pub short : {c : Code} {w : List ℕ} → IsCode c → IsRow c w → length w ≤ longest
-short C W = omega (arith, (code_numbers C).row_top, W.size)
+-- s₀ and s₁ are the numbers that formula 9 allows
+module _ {c : Code} {w : List ℕ} (W : IsRow c w) {s₀ s₁ : ℕ} (e₀ : s₀ ≡ (length w + c.k) / 2) (e₁ : s₁ ≡ suc (radius (length w) c.k)) where
+  abbrev C : IsCode c
+  C = is_code c
 
--- t is the radius
-module _ {c : Code} {w : List ℕ} (C : IsCode c) (W : IsRow c w) {t : ℕ} (e : t ≡ radius (length w) c.k) where
   abbrev points : List ℕ
   points = points_of c
-
-  abbrev s₀ : ℕ
-  s₀ = (length w + c.k) / 2
-
-  abbrev s₁ : ℕ
-  s₁ = t + 1
-
-  pub sizes : Sizes (length w) s₀ s₁
-  unfolding radius
-  sizes =
-      let h = enough C W in
-      let k = (code_numbers C).k_pos in
-      let n = short C W in
-      record { top = n; small = omega arith; fits = omega arith; top₀ = omega arith; top₁ = omega arith }
 
   rows_are : length w ≡ c.r * length points
   rows_are = W.size ∙ ap (λ (n : ℕ). c.r * n) (sym C.counted)
 
   size₀ : s₀ ≡ (c.r * length points + c.k) / 2
-  size₀ = ap (λ (n : ℕ). (n + c.k) / 2) rows_are
+  size₀ = e₀ ∙ ap (λ (n : ℕ). (n + c.k) / 2) rows_are
 
   size₁ : s₁ ≡ suc (reach c.r c.k points)
-  size₁ = add-one t ∙ ap suc (e ∙ ap (λ (n : ℕ). radius n c.k) rows_are)
+  size₁ = e₁ ∙ ap (λ (n : ℕ). suc (radius n c.k)) rows_are
 
   module _ {table : List ℕ} (S : System c.m c.r s₀ s₁ c.count points w table) where
     all_rows : System c.m c.r s₀ s₁ (length points) points w table
     all_rows = subst (λ (n : ℕ). System c.m c.r s₀ s₁ n points w table) (sym C.counted) S
 
-    pub found_pair : {N : Matrix} {q₀ q₁ : List ℕ} {f : ℕ} → IsFree c.m (length w) (s₀ + s₁) (at table) N f
+    pub found_pair : {N : Matrix} (q₀ q₁ : List ℕ) {f : ℕ} → IsFree c.m (length w) (s₀ + s₁) (at table) N f
         → take s₀ q₀ ≡ tab (λ a. free N f (0 + a)) s₀ → take s₁ q₁ ≡ tab (λ a. free N f (s₀ + a)) s₁
-        → Found c.m c.r c.k points w (record { verdict = Fine; q0 = q₀; q1 = q₁ })
-    found_pair {N} {q₀} {q₁} {f} F h₀ h₁ =
-        found refl
-        (subst (λ (q : List ℕ). IsPair c.m c.r c.k points w q (front₁ c.r c.k points q₁)) (sym (ap (λ (n : ℕ). take n q₀) (sym size₀) ∙ h₀))
-        (subst (λ (q : List ℕ). IsPair c.m c.r c.k points w (tab (λ a. free N f (0 + a)) s₀) q) (sym (ap (λ (n : ℕ). take n q₁) (sym size₁) ∙ h₁))
+        → IsPair c.m c.r c.k points w (take s₀ q₀) (take s₁ q₁)
+    found_pair {N} q₀ q₁ {f} F h₀ h₁ =
+        rw (h₀, h₁)
         (pair_solved c.k all_rows size₀ size₁ (tabs_joined (free N f) s₀ s₁) f F.symbols F.below F.one
-        (subst (λ (n : ℕ). Solves c.m (at table) n (s₀ + s₁) (free N f)) rows_are F.solves))))
+        (subst (λ (n : ℕ). Solves c.m (at table) n (s₀ + s₁) (free N f)) rows_are F.solves))
 
-    pub found_none : {q₀ q₁ : List ℕ} → IsFull c.m (length w) (s₀ + s₁) (at table)
-        → Found c.m c.r c.k points w (record { verdict = Refused TooFar; q0 = q₀; q1 = q₁ })
+    pub found_none : IsFull c.m (length w) (s₀ + s₁) (at table) → Found c.m c.r c.k points w None
     found_none F =
-        none refl (pair_none c.k all_rows size₀ size₁ (code_numbers C).r_pos (subst (λ (n : ℕ). IsFull c.m n (s₀ + s₁) (at table)) rows_are F))
+        pair_none c.k all_rows size₀ size₁ (code_numbers C).r_pos (subst (λ (n : ℕ). IsFull c.m n (s₀ + s₁) (at table)) rows_are F)

@@ -1,44 +1,71 @@
--- Entries of the table that a loop writes from the front, one a turn.
+-- Entries written side by side, in a part of the rows that is lent to be written.
 use Prim.Native.Nat.{ℕ, ◌+◌, ◌-◌, ◌^◌, ◌<◌, ◌≤◌}
-use mathlib.Core.Path.{◌≡◌, refl, ap, subst, ◌∙◌}
+use mathlib.Core.Path.{◌≡◌, ap, ◌∙◌}
 use mathlib.Core.Logic.{⊎_elim}
-use mathlib.Core.List.{List}
-use native.Mathlib.Nat.{le_antisymm}
-use native.Mathlib.Numerals.{add-one}
+use mathlib.Core.List.{List, ◌++◌, append-nil}
 use native.Mathlib.Omega.{arith}
-use lib.ListN.{length, get_or, set, length-set}
-use lib.Seq.{get_or-set_same, get_or-set_other}
-use Rattle.defs.specs.Field.{add}
-use Rattle.defs.specs.Place.{Symbols}
-use Rattle.theory.proofs.Order.{eq_or_not, lt_or_le, eq_lt}
-use Rattle.pair.specs.Equation.{deeper, power_at}
+use lib.ListN.{length, get_or, take, drop, length-append, length-drop, drop_of_length-le, get_or-append}
+use lib.Seq.{length-take-le, get_or-take, get_or-drop, get_or-append-add}
+use Rattle.defs.specs.Place.{tab, Symbols}
+use Rattle.theory.specs.Fill.{filled}
+use Rattle.theory.proofs.Order.{lt_or_le, eq_lt}
+use Rattle.theory.proofs.Fill.{filled_front}
+use Rattle.theory.proofs.Place.{length_tab, get_d_tab}
 use Rattle.pair.specs.Fill.{Span}
 
-pub span_none : (t : List ℕ) (base : ℕ) (g : ℕ → ℕ) → Span t base 0 g t
-span_none t base g = record { size = refl; inside = λ a l. absurd (omega arith); outside = λ k o. refl }
+-- a whole list is filled
+pub filled_all : (d : List ℕ) (F : ℕ → ℕ) (n : ℕ) → n ≡ length d → filled d 0 F n ≡ tab F (length d)
+filled_all d F n e =
+    filled_front d F n ∙ ap (λ (s : List ℕ). tab F n ++ s) (drop_of_length-le d (omega arith)) ∙ append-nil (tab F n) ∙ ap (tab F) e
 
-pub span_more : {t₀ t : List ℕ} {base n : ℕ} {g : ℕ → ℕ} → Span t₀ base n g t → base + n < length t₀ → (v : ℕ) → v ≡ g n
-    → Span t₀ base (n + 1) g (set t (base + n) v)
-span_more {t₀} {t} {base} {n} {g} S h v e = record {
-  size = length-set t (base + n) v ∙ S.size;
+-- what is still to be filled
+pub filled_rest : (d : List ℕ) (F : ℕ → ℕ) (n i : ℕ) → n ≤ i → get_or (filled d 0 F n) i 0 ≡ get_or d i 0
+filled_rest d F n i h =
+    let e : i ≡ length (tab F n) + (i - n) = omega (arith, length_tab F n) in
+    let g : n + (i - n) ≡ i = omega arith in
+    ap (λ (s : List ℕ). get_or s i 0) (filled_front d F n) ∙ ap (λ (k : ℕ). get_or (tab F n ++ drop n d) k 0) e
+    ∙ get_or-append-add (tab F n) (drop n d) (i - n) 0 ∙ get_or-drop n d (i - n) 0 ∙ ap (λ (k : ℕ). get_or d k 0) g
+
+-- the n entries from base on are lent, and come back as the list part
+pub span_part : {t₀ front back : List ℕ} {base n : ℕ} {g : ℕ → ℕ} (part : List ℕ) → base + n ≤ length t₀ → front ≡ take base t₀ → back ≡ drop base t₀ → length part ≡ n
+    → ((a : ℕ) → a < n → get_or part a 0 ≡ g a) → Span t₀ base n g (front ++ (part ++ drop n back))
+span_part {t₀} {front} {back} {base} {n} {g} part room f b long is = record {
+  size = length-append front (part ++ drop n back) ∙ omega (arith, fits, length-append part (drop n back), length-drop n back, ap length b, length-drop base t₀);
   inside = λ a l.
+      let e : base + a ≡ length front + a = omega (arith, fits) in
+      ap (λ (k : ℕ). get_or (front ++ (part ++ drop n back)) k 0) e ∙ get_or-append-add front _ a 0 ∙ get_or-append part _ 0 a (omega arith) ∙ is a l;
+  outside = λ k o.
       ⊎_elim
-      (λ w. rw w (get_or-set_same t (base + n) v 0 (omega (arith, S.size)) ∙ e))
-      (λ w. get_or-set_other t (base + n) (base + a) v 0 (λ z. w (omega arith)) ∙ S.inside a (omega arith))
-      (eq_or_not a n);
-  outside = λ k o. get_or-set_other t (base + n) k v 0 (o n (omega arith)) ∙ S.outside k (λ a l. o a (omega arith));
+      (λ l. get_or-append front _ 0 k (omega (arith, fits)) ∙ ap (λ (s : List ℕ). get_or s k 0) f ∙ get_or-take base t₀ k 0 l)
+      (λ l. ⊎_elim (λ h. absurd (o (k - base) (omega arith) (omega arith))) (behind k) (lt_or_le k (base + n)))
+      (lt_or_le k base);
 }
+  where
+    fits : length front ≡ base
+    fits = ap length f ∙ length-take-le base t₀ (omega arith)
 
--- the loop's end
-pub span_all : {t₀ t : List ℕ} {base n k : ℕ} {g : ℕ → ℕ} → n ≤ k → k ≤ n → Span t₀ base n g t → Span t₀ base k g t
-span_all {t₀} {t} {base} {n} {k} {g} h l S = subst (λ (i : ℕ). Span t₀ base i g t) (le_antisymm h l) S
+    behind : (k : ℕ) → base + n ≤ k → get_or (front ++ (part ++ drop n back)) k 0 ≡ get_or t₀ k 0
+    behind k h =
+        let i : ℕ = k - (base + n) in
+        let e : k ≡ length front + (length part + i) = omega (arith, fits) in
+        let d : base + (n + i) ≡ k = omega arith in
+        ap (λ (x : ℕ). get_or (front ++ (part ++ drop n back)) x 0) e ∙ get_or-append-add front _ _ 0 ∙ get_or-append-add part _ i 0
+        ∙ get_or-drop n back i 0 ∙ ap (λ (s : List ℕ). get_or s (n + i) 0) b ∙ get_or-drop base t₀ (n + i) 0 ∙ ap (λ (x : ℕ). get_or t₀ x 0) d
 
--- what stands before or behind the entries
-pub span_before : {t₀ t : List ℕ} {base n : ℕ} {g : ℕ → ℕ} → Span t₀ base n g t → (k : ℕ) → k < base → get_or t k 0 ≡ get_or t₀ k 0
-span_before S k l = S.outside k (λ a h e. omega arith)
+-- it comes back as the list of g's first values
+pub span_tab : {t₀ front part back : List ℕ} {base n l : ℕ} {g : ℕ → ℕ} → base + n ≤ length t₀ → front ≡ take base t₀ → back ≡ drop base t₀ → l ≡ n
+    → part ≡ tab g l → Span t₀ base n g (front ++ (part ++ drop n back))
+span_tab {part = part} {l = l} {g = g} room f b long is =
+    span_part part room f b (ap length is ∙ length_tab g l ∙ long) (λ a h. ap (λ (s : List ℕ). get_or s a 0) is ∙ get_d_tab g l a (omega arith))
 
-pub span_behind : {t₀ t : List ℕ} {base n : ℕ} {g : ℕ → ℕ} → Span t₀ base n g t → (k : ℕ) → base + n ≤ k → get_or t k 0 ≡ get_or t₀ k 0
-span_behind S k l = S.outside k (λ a h e. omega arith)
+-- an entry of those that are lent behind base, or before it from i on
+pub lent_behind : (t : List ℕ) {back : List ℕ} (base n a : ℕ) → back ≡ drop base t → a < n → get_or (take n back) a 0 ≡ get_or t (base + a) 0
+lent_behind t {back} base n a b l = get_or-take n back a 0 l ∙ ap (λ (s : List ℕ). get_or s a 0) b ∙ get_or-drop base t a 0
+
+pub lent_before : (t : List ℕ) {front : List ℕ} (base i n a : ℕ) → front ≡ take base t → a < n → i + a < base
+    → get_or (take n (drop i front)) a 0 ≡ get_or t (i + a) 0
+lent_before t {front} base i n a f h l =
+    get_or-take n (drop i front) a 0 h ∙ get_or-drop i front a 0 ∙ ap (λ (s : List ℕ). get_or s (i + a) 0) f ∙ get_or-take base t (i + a) 0 l
 
 pub span_symbols : (m : ℕ) {t₀ t : List ℕ} {base n : ℕ} {g : ℕ → ℕ} → Span t₀ base n g t → Symbols m t₀ → ((a : ℕ) → a < n → g a < 2 ^ m) → Symbols m t
 span_symbols m {t₀} {t} {base} {n} {g} S o small k =
@@ -52,20 +79,3 @@ span_symbols m {t₀} {t} {base} {n} {g} S o small k =
 
     new : (a : ℕ) → a < n → k ≡ base + a → get_or t k 0 < 2 ^ m
     new a l e = eq_lt (ap (λ (i : ℕ). get_or t i 0) e ∙ S.inside a l) (small a l)
-
--- the next power, and the next coefficient of a depth
-pub power_next : (f : ℕ → ℕ) (a : ℕ) → power_at f 0 (a + 1) ≡ f (power_at f 0 a)
-unfolding power_at
-power_next f a = rw (add-one a)
-
-pub deeper_next : (f above : ℕ → ℕ) (a : ℕ) → deeper f above (a + 1) ≡ add (above a) (f (deeper f above a))
-unfolding deeper
-deeper_next f above a = rw (add-one a)
-
-pub power_first : (f : ℕ → ℕ) → power_at f 0 0 ≡ 1
-unfolding power_at
-power_first f = refl
-
-pub deeper_first : (f above : ℕ → ℕ) → deeper f above 0 ≡ 0
-unfolding deeper
-deeper_first f above = refl

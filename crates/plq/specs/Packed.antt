@@ -1,6 +1,6 @@
 -- An answer as one number, and the calls' contracts over that number.
-use Rattle.std.specs.Prelude.{ℕ, ◌+◌, ◌*◌, ◌%◌, ◌^◌, ◌<◌, ◌≡◌, List, length}
-use Rattle.defs.specs.Refusal.{number, detail, answer}
+use Rattle.std.specs.Prelude.{ℕ, ◌+◌, ◌*◌, ◌%◌, ◌^◌, ◌<◌, ◌≡◌, Result, Ok, Err, List, length}
+use Rattle.defs.specs.Refusal.{number, detail, answer, verdict_of, Answer}
 use Rattle.defs.specs.Encode.{Encoded}
 use Rattle.defs.specs.Decode.{Decoded}
 use Rattle.defs.specs.Write.{Written}
@@ -9,18 +9,27 @@ use Rattle.defs.specs.Line.{Lined}
 use Rattle.defs.specs.Roll.{roll_verdict, first_part}
 use Rattle.defs.specs.Turn.{Turned}
 use Rattle.defs.specs.Levels.{LevelsRead, LevelsWritten}
-use Rattle.defs.specs.declared.Answer.{Answer}
+use Rattle.defs.specs.declared.Refusal.{Refusal}
 use Rattle.defs.specs.declared.SlipRead.{SlipRead}
 
 -- the number in the low byte, the detail above it
 abbrev pub packed : Answer → ℕ
 packed a = number a + detail a * 2 ^ 8
 
+-- the edition and the code's numbers that the reader's word shows: 0 for each on a refusal
+abbrev pub shown : Result SlipRead Refusal → SlipRead
+shown (Ok s) = s
+shown (Err x) = record { edition = 0; m = 0; r = 0; count = 0; k = 0 }
+
+-- and its number and detail: 0 and 0 where it reads
+abbrev pub told : Result SlipRead Refusal → Answer
+told a = answer (verdict_of a) 0
+
 -- the number, m, r, n', k, the detail and the edition in a byte each
-abbrev pub packed_read : SlipRead → ℕ
-packed_read s =
-    number s.answer + s.m * 2 ^ 8 + s.r * 2 ^ 16 + s.count * 2 ^ 24 + s.k * 2 ^ 32 + detail s.answer * 2 ^ 40
-    + s.edition * 2 ^ 48
+abbrev pub packed_read : Result SlipRead Refusal → ℕ
+packed_read a =
+    number (told a) + (shown a).m * 2 ^ 8 + (shown a).r * 2 ^ 16 + (shown a).count * 2 ^ 24 + (shown a).k * 2 ^ 32
+    + detail (told a) * 2 ^ 40 + (shown a).edition * 2 ^ 48
 
 -- the number, and the size of a roll's first slip above it
 abbrev pub packed_roll : List ℕ → ℕ
@@ -47,7 +56,7 @@ abbrev pub PackedWritten : ℕ → ℕ → ℕ → ℕ → List ℕ → List ℕ
 PackedWritten edition m r k points w bytes p bytes' = Packs packed (λ a. Written edition m r k points w bytes a bytes') p
 
 abbrev pub PackedRead : List ℕ → List ℕ → List ℕ → ℕ → List ℕ → List ℕ → Type 0
-PackedRead bytes points row p points' row' = Packs packed_read (λ s. Read bytes points row s points' row') p
+PackedRead bytes points row p points' row' = Packs packed_read (λ a. Read bytes points row a points' row') p
 
 abbrev pub PackedLined : List ℕ → List ℕ → ℕ → List ℕ → Type 0
 PackedLined bytes buffer p buffer' = Packs packed (λ a. Lined bytes buffer a buffer') p
@@ -62,10 +71,10 @@ abbrev pub PackedLevelsWritten : ℕ → ℕ → List ℕ → List ℕ → ℕ �
 PackedLevelsWritten m r w text p text' = Packs packed (λ a. LevelsWritten m r w text a text') p
 
 -- what the reader answers has room in its byte
-pub record Narrow (s : SlipRead) : Type 0 where
-  pub m_fits : s.m < 2 ^ 8
-  pub r_fits : s.r < 2 ^ 8
-  pub count_fits : s.count < 2 ^ 8
-  pub k_fits : s.k < 2 ^ 8
-  pub detail_fits : detail s.answer < 2 ^ 8
-  pub edition_fits : s.edition < 2 ^ 8
+pub record Narrow (a : Result SlipRead Refusal) : Type 0 where
+  pub m_fits : (shown a).m < 2 ^ 8
+  pub r_fits : (shown a).r < 2 ^ 8
+  pub count_fits : (shown a).count < 2 ^ 8
+  pub k_fits : (shown a).k < 2 ^ 8
+  pub detail_fits : detail (told a) < 2 ^ 8
+  pub edition_fits : (shown a).edition < 2 ^ 8

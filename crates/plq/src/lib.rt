@@ -1,52 +1,71 @@
 // The calls once more as functions for C: a slice is a pointer and a length, an answer one number.
-#![tactic(auto)]
+// A function for each call, its numbers loose and its answer a word: that is the C interface.
+#![tactic(auto, using(crate::proofs::Small::small_answers))]
 
-ghost use Rattle.std.specs.Prelude.{◌≡◌, ◌^◌, ◌<◌};
+ghost use Rattle.std.specs.Prelude.{◌≡◌, ◌+◌, ◌*◌, ◌^◌, ◌<◌};
 ghost use Rattle.defs.specs.Refusal.{detail};
 ghost use Rattle.defs.specs.Encode.{distance_answer};
 ghost use Rattle.plq.specs.Packed.{packed, packed_read, packed_roll, packed_line, PackedEncoded, PackedDecoded, PackedWritten, PackedRead, PackedLined, PackedTurned, PackedLevelsRead, PackedLevelsWritten, Narrow};
 
-use defs::{Answer, SlipRead};
+use defs::{Refusal, SlipRead};
+
+// The numbers of lines that have room above the number of an answer.
+const LINES: usize = 1 << 56;
+
+// The number of an answer in the low byte, and above it what else the answer says.
+fn join(number: usize, detail: usize) -> u64
+    requires { number + detail * 2 ^ 8 < 2 ^ 64 }
+    ensures { result ≡ number + detail * 2 ^ 8 }
+{
+    // There is no From from usize.
+    (number + detail * 256) as u64
+}
 
 // An answer as one number.
-fn pack(a: Answer) -> u64
+fn pack(a: Result<usize, Refusal>) -> u64
     requires { detail a < 2 ^ 16 }
     ensures { result ≡ packed a }
 {
-    let number = answers::number_in(a) as u64;
-    let detail = answers::detail_in(a) as u64;
-    number + detail * 256
+    join(answers::number_in(a), answers::detail_in(a))
 }
 
-// What the slip reader answers as one number.
-fn pack_read(s: SlipRead) -> u64
-    requires { Narrow s }
-    ensures { result ≡ packed_read s }
-{
-    let a = s.answer;
-    let number = answers::number_in(a) as u64;
-    let detail = answers::detail_in(a) as u64;
-    let m = s.m as u64;
-    let r = s.r as u64;
-    let count = s.count as u64;
-    let k = s.k as u64;
-    let edition = s.edition as u64;
-    number
-        + m * 256
-        + r * 65536
-        + count * 16777216
-        + k * 4294967296
-        + detail * 1099511627776
-        + edition * 281474976710656
-}
-
-// An answer with the number of a line, of which 56 bits have room.
-fn pack_line(a: Answer) -> u64
+// An answer with the number of a line.
+fn pack_line(a: Result<usize, Refusal>) -> u64
     ensures { result ≡ packed_line a }
 {
-    let number = answers::number_in(a) as u64;
-    let line = answers::detail_in(a) as u64;
-    number + line % 72057594037927936 * 256
+    join(answers::number_in(a), answers::detail_in(a) % LINES)
+}
+
+// What a refused slip shows of its edition and its code's numbers.
+const NOTHING: SlipRead = SlipRead {
+    edition: 0,
+    m: 0,
+    r: 0,
+    count: 0,
+    k: 0,
+};
+
+// What the slip reader answers as one number, with a byte for each part.
+#[tactic(auto, unfolding(defs::specs::Refusal::answer))]
+fn pack_read(a: Result<SlipRead, Refusal>) -> u64
+    requires { Narrow a }
+    ensures { result ≡ packed_read a }
+{
+    let told = a.map(|_| 0);
+    let number = answers::number_in(told);
+    let detail = answers::detail_in(told);
+    let s = a.unwrap_or(NOTHING);
+    // It fits, as is proved; try_from would bring a branch that no run takes.
+    u64::from_le_bytes([
+        number as u8,
+        s.m as u8,
+        s.r as u8,
+        s.count as u8,
+        s.k as u8,
+        detail as u8,
+        s.edition as u8,
+        0,
+    ])
 }
 
 // Writes the row of a message.
@@ -125,9 +144,9 @@ pub extern "C" fn plq_line(bytes: &[u8], text: &mut [u8]) -> u64
 pub extern "C" fn plq_roll_first(roll: &[u8]) -> u64
     ensures { result ≡ packed_roll roll.now }
 {
-    let number = answers::number_in(roll::roll_answer(roll)) as u64;
-    let size = roll::first_size(roll) as u64;
-    number + size * 256
+    let number = answers::number_in(roll::roll_answer(roll));
+    let size = roll::first_size(roll);
+    join(number, size)
 }
 
 // Turns a slip of edition 1 into one of edition 2.

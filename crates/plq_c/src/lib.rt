@@ -1,4 +1,5 @@
 // The functions for C, which make up the archive: each is one call of plq's function of its name, and promises the same.
+// The C interface wants each of them here once more, since an archive holds the exports of its own crate alone.
 #![tactic(auto)]
 
 ghost use Rattle.std.specs.Prelude.{◌≡◌};

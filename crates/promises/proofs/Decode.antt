@@ -12,16 +12,15 @@ use Rattle.defs.specs.Decode.{decode_verdict, Decoded, refused, found, none}
 use Rattle.defs.specs.Line.{line_of}
 use Rattle.defs.specs.declared.Refusal.{Refusal}
 use Rattle.defs.specs.declared.Refusal.TheVariants.{TooFar}
-use Rattle.defs.specs.declared.Verdict.TheVariants.{Fine}
-use Rattle.defs.specs.declared.Answer.{Answer}
-use Rattle.defs.specs.declared.Answer.TheVariants.{Done, Refused as No}
 use Rattle.theory.specs.Demand3.{damaged_chunks}
 use Rattle.theory.proofs.Demand3.{near_unique, chunks_near}
 use Rattle.theory.proofs.Checks.{decode_known, decode_fine}
 use Rattle.theory.proofs.Verdict.{apart}
 use Rattle.promises.proofs.Encode.{done_encode, encode_done}
+use Rattle.std.proofs.Common.{Err, Ok}
+use Rattle.defs.specs.Refusal.{Answer, fine}
 
-refused_done : (a : Answer) (d : ℕ) (x : Refusal) → a ≡ Done d → a ≡ No x → ⊥
+refused_done : (a : Answer) (d : ℕ) (x : Refusal) → a ≡ Ok d → a ≡ Err x → ⊥
 refused_done a d x e e' = apart cc
 
 module _ (m r k : ℕ) (points w message depth : List ℕ) where
@@ -30,7 +29,7 @@ module _ (m r k : ℕ) (points w message depth : List ℕ) where
 
   -- the input passes the checks
   abbrev Passes : Type 0
-  Passes = decode_verdict m r k points w (length message) (length depth) ≡ Fine
+  Passes = decode_verdict m r k points w (length message) (length depth) ≡ fine
 
   one : Passes → (f g : List ℕ) → Near m r k points w f → Near m r k points w g → f ≡ g
   one v f g = near_unique m r k points (decode_known m r k points w _ _ v).0 w f g
@@ -47,19 +46,19 @@ module _ (m r k : ℕ) (points w message depth : List ℕ) where
   decode_same a b s t u x (none e n p q h) (none e' n' p' q' h') = (cc, cc, cc)
 
   module _ (a : Answer) (message' depth' : List ℕ) where
-    pub decode_refused : (x : Refusal) → a ≡ No x → Outcome a message' depth' → (message' ≡ message) × (depth' ≡ depth)
+    pub decode_refused : (x : Refusal) → a ≡ Err x → Outcome a message' depth' → (message' ≡ message) × (depth' ≡ depth)
     decode_refused x e (refused y v p q h) = (q, h)
     decode_refused x e (found f v n p q h) = (cc, cc)
     decode_refused x e (none v n p q h) = (q, h)
 
     -- what it finds where f is near
     pub decode_done : Passes → (f : List ℕ) → Near m r k points w f → Outcome a message' depth'
-        → (a ≡ Done (distance r (length points) (row_of m r points f) w)) × (message' ≡ f)
+        → (a ≡ Ok (distance r (length points) (row_of m r points f) w)) × (message' ≡ f)
         × (depth' ≡ depths r (length points) (row_of m r points f) w)
     decode_done v f near x =
         decode_same a _ message' depth' f _ x (found f v near refl refl refl)
 
-    pub done_decode : (d : ℕ) → a ≡ Done d → Outcome a message' depth' → Passes × ((f : List ℕ) × Near m r k points w f)
+    pub done_decode : (d : ℕ) → a ≡ Ok d → Outcome a message' depth' → Passes × ((f : List ℕ) × Near m r k points w f)
     done_decode d e (refused y v p q h) = absurd (refused_done a d y e p)
     done_decode d e (found f v n p q h) = (v, (f, n))
     done_decode d e (none v n p q h) = absurd (refused_done a d TooFar e p)
@@ -83,20 +82,20 @@ module _ (m r k : ℕ) (points w : List ℕ) {message depth message₂ depth₂ 
       sym y.3 ∙ cc (e.0, e.1, e.2)
 
 -- encode's row, damaged, is decoded
-module _ (m r k : ℕ) (points f buffer : List ℕ) (d : ℕ) (row : List ℕ) (sent : Encoded m r k points f buffer (Done d) row)
+module _ (m r k : ℕ) (points f buffer : List ℕ) (d : ℕ) (row : List ℕ) (sent : Encoded m r k points f buffer (Ok d) row)
     (w message depth : List ℕ) (long : length w ≡ r * length points) (symbols : Symbols m w)
     (room : length message ≡ k) (room' : length depth ≡ length points)
     (a : Answer) (message' depth' : List ℕ) (received : Decoded m r k points w message depth a message' depth') where
   -- to the message, the depths of the damage and their sum
   abbrev Repaired : Type 0
   Repaired =
-      (a ≡ Done (distance r (length points) row w)) × (message' ≡ f) × (depth' ≡ depths r (length points) row w)
+      (a ≡ Ok (distance r (length points) row w)) × (message' ≡ f) × (depth' ≡ depths r (length points) row w)
 
   inputs : Inside m r k points × Message m k f × (length buffer ≡ r * length points)
-  inputs = done_encode m r k points f buffer (Done d) row sent d refl
+  inputs = done_encode m r k points f buffer (Ok d) row sent d refl
 
   row_is : row ≡ row_of m r points f
-  row_is = (encode_done m r k points f buffer (Done d) row sent inputs.0 inputs.1 inputs.2).1
+  row_is = (encode_done m r k points f buffer (Ok d) row sent inputs.0 inputs.1 inputs.2).1
 
   near_repaired : Near m r k points w f → Repaired
   near_repaired near =

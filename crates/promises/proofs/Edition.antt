@@ -9,7 +9,7 @@ use native.Mathlib.Omega.{arith}
 use lib.Dec.{eqb}
 use lib.ListN.{length}
 use borrow.Author.Tests.{lt-ltb, le-ltb, ltb-false, ne_eqb, eqb-true, eqb-false, not-true}
-use Rattle.defs.specs.Refusal.{number_of, refuse, answer}
+use Rattle.defs.specs.Refusal.{number_of, refuse, answer, Answer}
 use Rattle.defs.specs.Limits.{code_verdict, numbers_verdict}
 use Rattle.defs.specs.Encode.{symbols_verdict}
 use Rattle.defs.specs.Slip.{is_edition, layout_of, head_bits, edition_in, layout_in}
@@ -18,16 +18,14 @@ use Rattle.defs.specs.Read.{first_verdict_of, first_verdict, head_verdict, read_
 use Rattle.defs.specs.Roll.{roll_verdict}
 use Rattle.defs.specs.declared.Refusal.{Refusal}
 use Rattle.defs.specs.declared.Refusal.TheVariants.{Edition, SlipShort}
-use Rattle.defs.specs.declared.Verdict.TheVariants.{Refused}
-use Rattle.defs.specs.declared.Answer.{Answer}
-use Rattle.defs.specs.declared.Answer.TheVariants.{Done, Refused as No}
 use Rattle.defs.specs.declared.SlipRead.{SlipRead}
 use Rattle.theory.proofs.Verdict.{or_false, answer_refused, Every, every_fine, every_refuse, every_plain, every_then}
 use Rattle.theory.proofs.Refusals.{numbers_every}
 use Rattle.slip.proofs.Reader.{head_first, read_head}
-use Rattle.slip.proofs.Answered.{answered, read_fine, read_numbers}
+use Rattle.slip.proofs.Answered.{read_no, read_fine, read_numbers}
 use Rattle.slip.proofs.Taken.{read_sound}
 use Rattle.roll.proofs.Parts.{others_first}
+use Rattle.std.proofs.Common.{Err, Ok, Result}
 
 abbrev pub Neither : ℕ → Type 0
 Neither edition = (edition ≡ 1 → ⊥) × (edition ≡ 2 → ⊥)
@@ -55,7 +53,7 @@ Where11 P x = number_of x ≡ 11 → P
 
 module _ (edition m r k : ℕ) (points w bytes : List ℕ) (a : Answer) (bytes' : List ℕ) (x : Written edition m r k points w bytes a bytes') where
   -- 11 IS TRIED FIRST: whatever the code, the row and the bytes are
-  pub write_unknown : Neither edition → a ≡ No Edition
+  pub write_unknown : Neither edition → a ≡ Err Edition
   unfolding write_verdict refuse answer
   write_unknown n = x.answers ∙ rw (unknown edition n)
 
@@ -70,34 +68,34 @@ module _ (edition m r k : ℕ) (points w bytes : List ℕ) (a : Answer) (bytes' 
       (λ f. every_plain _ _ _ (λ q. absurd (omega arith)) (every_plain _ _ _ (λ q. absurd (omega arith)) (every_plain _ _ _ (λ q. absurd (omega arith)) every_fine))))
 
   -- and 11 says nothing else
-  pub unknown_write : a ≡ No Edition → Neither edition
+  pub unknown_write : a ≡ Err Edition → Neither edition
   unknown_write e = write_every.of Edition (answer_refused _ _ Edition (sym x.answers ∙ e)) refl
 
 -- ---- the reader
 
 -- what the first checks refuse the reader refuses, whatever room it is given
-first_read : (bytes : List ℕ) (x : Refusal) → first_verdict bytes ≡ Refused x → (count n : ℕ) → read_verdict bytes count n ≡ Refused x
+first_read : (bytes : List ℕ) (x : Refusal) → first_verdict bytes ≡ Err x → (count n : ℕ) → read_verdict bytes count n ≡ Err x
 first_read bytes x e count n = sym (read_head bytes count n x (sym (head_first bytes x e)))
 
 module _ (bytes : List ℕ) where
-  pub first_unknown : 3 ≤ length bytes → Neither (edition_in bytes) → first_verdict bytes ≡ Refused Edition
+  pub first_unknown : 3 ≤ length bytes → Neither (edition_in bytes) → first_verdict bytes ≡ Err Edition
   unfolding first_verdict_of refuse
   first_unknown long n = rw (le-ltb (length bytes) 3 long, unknown (edition_in bytes) n)
 
   -- 10 straight after 11: whatever else stands in the bytes
-  pub first_cut : edition_in bytes ≡ 2 → length bytes < 4 → first_verdict bytes ≡ Refused SlipShort
+  pub first_cut : edition_in bytes ≡ 2 → length bytes < 4 → first_verdict bytes ≡ Err SlipShort
   unfolding first_verdict_of layout_in layout_of head_bits refuse
   first_cut e l = go (dec_lt (length bytes) 3)
     where
-      go : Dec (length bytes < 3) → first_verdict bytes ≡ Refused SlipShort
+      go : Dec (length bytes < 3) → first_verdict bytes ≡ Err SlipShort
       go (yes s) = rw (lt-ltb (length bytes) 3 s)
       go (no s) = rw (le-ltb (length bytes) 3 (omega arith), e, lt-ltb (length bytes) 4 l)
 
   -- and a roll that begins so is refused so
-  pub roll_unknown : 3 ≤ length bytes → Neither (edition_in bytes) → roll_verdict bytes ≡ Refused Edition
+  pub roll_unknown : 3 ≤ length bytes → Neither (edition_in bytes) → roll_verdict bytes ≡ Err Edition
   roll_unknown long n = sym (others_first bytes (λ e. omega arith)) ∙ first_unknown long n
 
-  pub roll_cut : 0 < length bytes → edition_in bytes ≡ 2 → length bytes < 4 → roll_verdict bytes ≡ Refused SlipShort
+  pub roll_cut : 0 < length bytes → edition_in bytes ≡ 2 → length bytes < 4 → roll_verdict bytes ≡ Err SlipShort
   roll_cut some e l = sym (others_first bytes (λ e. omega arith)) ∙ first_cut e l
 
   abbrev Unknown : Type 0
@@ -117,24 +115,24 @@ module _ (bytes : List ℕ) where
       (λ f. every_plain _ _ _ (λ q. absurd (omega arith)) every_fine))
       (λ f. every_plain _ _ _ (λ q. absurd (omega arith)) (every_plain _ _ _ (λ q. absurd (omega arith)) (every_plain _ _ _ (λ q. absurd (omega arith)) every_fine)))
 
-module _ (bytes points row points' row' : List ℕ) (s : SlipRead) (x : Read bytes points row s points' row') where
-  pub refused_by : (y : Refusal) → first_verdict bytes ≡ Refused y → s.answer ≡ No y
-  unfolding answer
-  refused_by y e = answered x ∙ rw (first_read bytes y e (length points) (length row))
+module _ (bytes points row points' row' : List ℕ) (a : Result SlipRead Refusal) (x : Read bytes points row a points' row') where
+  pub refused_by : (y : Refusal) → first_verdict bytes ≡ Err y → a ≡ Err y
+  unfolding reading
+  refused_by y e = x.answers ∙ rw (first_read bytes y e (length points) (length row))
 
-  pub read_unknown : 3 ≤ length bytes → Neither (edition_in bytes) → s.answer ≡ No Edition
+  pub read_unknown : 3 ≤ length bytes → Neither (edition_in bytes) → a ≡ Err Edition
   read_unknown long n = refused_by Edition (first_unknown bytes long n)
 
-  pub unknown_read : s.answer ≡ No Edition → (3 ≤ length bytes) × Neither (edition_in bytes)
-  unknown_read e = (read_every bytes (length points) (length row)).of Edition (answer_refused _ _ Edition (sym (answered x) ∙ e)) refl
+  pub unknown_read : a ≡ Err Edition → (3 ≤ length bytes) × Neither (edition_in bytes)
+  unknown_read e = (read_every bytes (length points) (length row)).of Edition (read_no x Edition e) refl
 
   -- A SLIP OF EDITION 2 UNDER 4 BYTES IS 10, STRAIGHT AFTER 11
-  pub read_cut : edition_in bytes ≡ 2 → length bytes < 4 → s.answer ≡ No SlipShort
+  pub read_cut : edition_in bytes ≡ 2 → length bytes < 4 → a ≡ Err SlipShort
   read_cut e l = refused_by SlipShort (first_cut bytes e l)
 
-  -- THE READER SAYS WHICH EDITION IT FOUND, and that is 1 or 2; where it is refused it says 0 (`Slip.antt:read_refused`)
-  pub read_says : (d : ℕ) → s.answer ≡ Done d → (s.edition ≡ edition_in bytes) × ((s.edition ≡ 1) ⊎ (s.edition ≡ 2))
+  -- THE READER SAYS WHICH EDITION IT FOUND, and that is 1 or 2; where it is refused it says none, and 0 in C (`Unpacked.antt:read_unpacked`)
+  pub read_says : (s : SlipRead) → a ≡ Ok s → (s.edition ≡ edition_in bytes) × ((s.edition ≡ 1) ⊎ (s.edition ≡ 2))
   unfolding reading
-  read_says d done =
-      rw (read_numbers x d done)
-      (refl, either (edition_in bytes) (read_sound bytes _ _ (read_fine x d done)).known)
+  read_says s done =
+      rw (read_numbers x s done)
+      (refl, either (edition_in bytes) (read_sound bytes _ _ (read_fine x s done)).known)

@@ -7,7 +7,7 @@ use lib.Dec.{eqb, ltb}
 use native.Mathlib.Omega.{arith}
 use lib.ListN.{length, take, drop, length-take, take-append-drop}
 use borrow.Author.Tests.{le-ltb, eqb-true}
-use Rattle.defs.specs.Refusal.{refuse, and_then, kept}
+use Rattle.defs.specs.Refusal.{refuse, and_then, kept, Verdict, fine}
 use Rattle.defs.specs.Limits.{numbers_verdict}
 use Rattle.defs.specs.Slip.{all_bits, number_at, layout_of, head_bits, slip_size, edition_in, layout_in, width_in, depth_in, count_in, dimension_in, size_in}
 use Rattle.defs.specs.Write.{Written}
@@ -16,13 +16,11 @@ use Rattle.defs.specs.Text.{digits, decimal}
 use Rattle.defs.specs.Line.{heading, line_of}
 use Rattle.defs.specs.declared.Refusal.{Refusal}
 use Rattle.defs.specs.declared.Refusal.TheVariants.{SlipShort, Edition}
-use Rattle.defs.specs.declared.Verdict.{Verdict}
-use Rattle.defs.specs.declared.Verdict.TheVariants.{Fine, Refused}
-use Rattle.defs.specs.declared.Answer.TheVariants.{Done, Refused as No}
 use Rattle.theory.proofs.Verdict.{apart}
 use Rattle.promises.proofs.Header.{edition_front}
 use Rattle.promises.proofs.Roll.{alone}
 use Rattle.promises.proofs.RoundTrip.{written_edition, written_whole}
+use Rattle.std.proofs.Common.{Err, Ok}
 
 -- ---- its first checks, as they stood: a header of 24 bits, 7 of them n' - 1 and 7 of them k - 1, and rows of at most 128 symbols
 
@@ -40,7 +38,7 @@ was_verdict bytes =
     refuse (ltb (length bytes) 3) SlipShort
     (refuse (not (eqb (edition_in bytes) 1)) Edition
     (and_then (numbers_verdict 128 (width_in bytes) (depth_in bytes) (was_dimension bytes) (was_count bytes))
-    (refuse (ltb (length bytes) (was_size bytes)) SlipShort Fine)))
+    (refuse (ltb (length bytes) (was_size bytes)) SlipShort fine)))
 
 -- they are today's with edition 1 as the one that is known
 pub was_first : (bytes : List ℕ) → first_verdict_of (λ e. eqb e 1) bytes ≡ was_verdict bytes
@@ -66,13 +64,13 @@ old_same bytes e =
 
 -- the line that it printed: that of the refusal by its checks, or where these found nothing that of the row
 pub data WasLine (checks : Verdict) (Row : List ℕ → Type 0) (text : List ℕ) : Type 0 where
-  refused : (x : Refusal) → checks ≡ Refused x → text ≡ line_of (No x) [] [] → WasLine checks Row text
-  read : checks ≡ Fine → Row text → WasLine checks Row text
+  refused : (x : Refusal) → checks ≡ Err x → text ≡ line_of (Err x) [] [] → WasLine checks Row text
+  read : checks ≡ fine → Row text → WasLine checks Row text
 
 -- ---- bytes of edition 2
 
 module _ (bytes : List ℕ) (long : 3 ≤ length bytes) (e : edition_in bytes ≡ 2) where
-  pub was_refused : was_verdict bytes ≡ Refused Edition
+  pub was_refused : was_verdict bytes ≡ Err Edition
   unfolding was_verdict refuse
   was_refused = rw (le-ltb (length bytes) 3 long, e)
 
@@ -81,7 +79,7 @@ module _ (bytes : List ℕ) (long : 3 ≤ length bytes) (e : edition_in bytes �
     abbrev reads_first : Verdict
     reads_first = and_then (and_then (was_verdict bytes) then_long) then_others
 
-    pub first_refused : reads_first ≡ Refused Edition
+    pub first_refused : reads_first ≡ Err Edition
     unfolding and_then
     first_refused = rw was_refused
 
@@ -98,8 +96,8 @@ module _ (bytes : List ℕ) (long : 3 ≤ length bytes) (e : edition_in bytes �
     first_line Row text (read e row) = absurd (apart (cc (e, first_refused)))
 
 -- so whatever the writer makes of edition 2, and whatever part of it from the front, of 3 bytes or more, the first program took in
-pub made_refused : (m r k d : ℕ) (points w bytes bytes' : List ℕ) → Written 2 m r k points w bytes (Done d) bytes'
-    → (n : ℕ) → 3 ≤ n → was_verdict (take n (take d bytes')) ≡ Refused Edition
+pub made_refused : (m r k d : ℕ) (points w bytes bytes' : List ℕ) → Written 2 m r k points w bytes (Ok d) bytes'
+    → (n : ℕ) → 3 ≤ n → was_verdict (take n (take d bytes')) ≡ Err Edition
 made_refused m r k d points w bytes bytes' t n some =
     let slip = take d bytes' in
     let whole = (alone slip [] (written_whole 2 m r k d points w bytes bytes' t)).long in

@@ -11,7 +11,6 @@ use lib.Seq.{get_or-append_seam, drop-append_seam}
 use borrow.Author.Tests.{eq-eqb}
 use Rattle.defs.specs.Text.{decimal, is_digit, digit_count, value_from}
 use Rattle.defs.specs.Levels.{levels_text, lines, written, value_of, lines_verdict}
-use Rattle.defs.specs.declared.Verdict.TheVariants.{Fine}
 use Rattle.text.proofs.Numbers.{count_none, value_none}
 use Rattle.text.proofs.Back.{
   AllDigits,
@@ -25,6 +24,7 @@ use Rattle.text.proofs.Back.{
   decimal_first,
   decimal_digits,
 }
+use Rattle.defs.specs.Refusal.{fine}
 use Rattle.levels.specs.Lines.{head_line, behind}
 use Rattle.levels.proofs.FirstLine.{
   lines_none,
@@ -38,7 +38,7 @@ use Rattle.levels.proofs.FirstLine.{
   zero_first,
   written_known,
 }
-use Rattle.levels.proofs.Checking.{good_none, lines_passed, good_first, line_fine, line_known, lines_at}
+use Rattle.levels.proofs.Checking.{good_none, lines_passed, good_first, line_fine, line_known, lines_some}
 use Rattle.levels.proofs.Writing.{line_of, text_none, text_front}
 
 -- ---- a line that is written, in front of a text
@@ -80,7 +80,7 @@ module _ (v : ℕ) (t : List ℕ) (l : v < 2 ^ 64) where
 
   lines_is : lines s ≡ head_line s ∷ lines t
   lines_is =
-      lines_at s 0 (omega (arith, length-append (line_of v) t, length-append (decimal v) (10 ∷ []), decimal_some v))
+      lines_some s (omega (arith, length-append (line_of v) t, length-append (decimal v) (10 ∷ []), decimal_some v))
       ∙ ap (λ (x : List ℕ). head_line s ∷ lines x) rest
     where
       long : suc (digit_count s) ≡ length (line_of v)
@@ -92,14 +92,14 @@ module _ (v : ℕ) (t : List ℕ) (l : v < 2 ^ 64) where
 -- ---- what is written is read back
 
 module _ (bound : ℕ) (word : bound ≤ 2 ^ 64) where
-  pub text_good : (s : List ℕ) → ((i : ℕ) → i < length s → get_or s i 0 < bound) → (i : ℕ) → lines_verdict bound i (lines (levels_text s)) ≡ Fine
+  pub text_good : (s : List ℕ) → ((i : ℕ) → i < length s → get_or s i 0 < bound) → (i : ℕ) → lines_verdict bound i (lines (levels_text s)) ≡ fine
   text_good [] h i = rw (text_none, lines_none) (good_none bound i)
   text_good (v ∷ s) h i =
       let low : v < bound = h 0 (omega arith) in
       let fits : v < 2 ^ 64 = lt_of_lt_of_le low word in
-      let fine = line_fine bound i (head_line (line_of v ++ levels_text s)) (line_written v (levels_text s) fits) (rw (value_is v (levels_text s) fits) low) in
+      let is_fine = line_fine bound i (head_line (line_of v ++ levels_text s)) (line_written v (levels_text s) fits) (rw (value_is v (levels_text s) fits) low) in
       ap (λ (x : List ℕ). lines_verdict bound i (lines x)) (text_front v s) ∙ ap (lines_verdict bound i) (lines_is v (levels_text s) fits)
-      ∙ lines_passed bound i _ _ fine ∙ text_good s (λ j k. h (suc j) (omega arith)) (suc i)
+      ∙ lines_passed bound i _ _ is_fine ∙ text_good s (λ j k. h (suc j) (omega arith)) (suc i)
 
   pub text_values : (s : List ℕ) → ((i : ℕ) → i < length s → get_or s i 0 < bound) → map value_of (lines (levels_text s)) ≡ s
   text_values [] h = rw (text_none, lines_none)
@@ -140,21 +140,21 @@ behind_shorter t w =
     )
 
 module _ (bound : ℕ) (word : bound ≤ 2 ^ 64) where
-  again : (n : ℕ) (text : List ℕ) → length text ≤ n → (i : ℕ) → lines_verdict bound i (lines text) ≡ Fine → levels_text (map value_of (lines text)) ≡ text
+  again : (n : ℕ) (text : List ℕ) → length text ≤ n → (i : ℕ) → lines_verdict bound i (lines text) ≡ fine → levels_text (map value_of (lines text)) ≡ text
   again zero [] h i e = rw (lines_none, text_none)
   again zero (b ∷ s) h i e = absurd (omega arith)
   again (suc n) [] h i e = rw (lines_none, text_none)
   again (suc n) (b ∷ s) h i e =
       let t = b ∷ s in
       let split = lines_head b s in
-      let good : lines_verdict bound i (head_line t ∷ lines (behind t)) ≡ Fine = ap (lines_verdict bound i) (sym split) ∙ e in
-      let fine = good_first bound i (head_line t) (lines (behind t)) good in
-      let known = line_known bound i (head_line t) fine in
+      let good : lines_verdict bound i (head_line t ∷ lines (behind t)) ≡ fine = ap (lines_verdict bound i) (sym split) ∙ e in
+      let is_fine = good_first bound i (head_line t) (lines (behind t)) good in
+      let known = line_known bound i (head_line t) is_fine in
       let line = line_again b s known.0 (lt_of_lt_of_le known.1 word) in
       ap (λ (x : List (List ℕ)). levels_text (map value_of x)) split
       ∙ text_front (value_of (head_line t)) (map value_of (lines (behind t)))
-      ∙ cc (line, again n (behind t) (omega (arith, behind_shorter t known.0)) (suc i) (sym (lines_passed bound i _ _ fine) ∙ good))
+      ∙ cc (line, again n (behind t) (omega (arith, behind_shorter t known.0)) (suc i) (sym (lines_passed bound i _ _ is_fine) ∙ good))
       ∙ head_behind t
 
-  pub text_again : (text : List ℕ) → lines_verdict bound 0 (lines text) ≡ Fine → levels_text (map value_of (lines text)) ≡ text
+  pub text_again : (text : List ℕ) → lines_verdict bound 0 (lines text) ≡ fine → levels_text (map value_of (lines text)) ≡ text
   text_again text e = again (length text) text (omega arith) 0 e

@@ -12,7 +12,7 @@ use lib.Pow.{pow_pos}
 use borrow.Author.Tests.{le-ltb, ltb-false, eq-eqb, eqb-true, not-false}
 use Rattle.defs.specs.Place.{Symbols}
 use Rattle.defs.specs.Distance.{symbol, agree, agree_at}
-use Rattle.defs.specs.Refusal.{refuse, and_then, answer, kept}
+use Rattle.defs.specs.Refusal.{refuse, and_then, answer, kept, Answer, fine}
 use Rattle.defs.specs.Write.{front}
 use Rattle.defs.specs.Text.{text_verdict}
 use Rattle.defs.specs.Levels.{
@@ -31,10 +31,8 @@ use Rattle.defs.specs.Levels.{
   levels_write_verdict,
   LevelsWritten,
 }
+use Rattle.std.proofs.Common.{Err, Ok}
 use Rattle.defs.specs.declared.Refusal.{Refusal}
-use Rattle.defs.specs.declared.Verdict.TheVariants.{Fine}
-use Rattle.defs.specs.declared.Answer.{Answer}
-use Rattle.defs.specs.declared.Answer.TheVariants.{Done, Refused as No}
 use Rattle.theory.proofs.Agree.{agree_eq, agree_max}
 use Rattle.theory.proofs.Checks.{symbols_known, symbols_fine}
 use Rattle.theory.proofs.Verdict.{refuse_fine, then_fine, answer_done, kept_refused}
@@ -92,13 +90,13 @@ module _ (q r : ℕ) (pos : 0 < q) where
 abbrev pub Valid : ℕ → List (List ℕ) → Type 0
 Valid bound rest = (i : ℕ) → i < length rest → (written (get_or rest i []) ≡ true) × (value_of (get_or rest i []) < bound)
 
-lines_known : (bound i : ℕ) (rest : List (List ℕ)) → lines_verdict bound i rest ≡ Fine → Valid bound rest
+lines_known : (bound i : ℕ) (rest : List (List ℕ)) → lines_verdict bound i rest ≡ fine → Valid bound rest
 lines_known bound i [] e j l = absurd (omega arith)
 lines_known bound i (line ∷ rest) e zero l = line_known bound i line (good_first bound i line rest e)
 lines_known bound i (line ∷ rest) e (suc j) l =
     lines_known bound (suc i) rest (sym (lines_passed bound i line rest (good_first bound i line rest e)) ∙ e) j (omega arith)
 
-pub lines_good : (bound i : ℕ) (rest : List (List ℕ)) → Valid bound rest → lines_verdict bound i rest ≡ Fine
+pub lines_good : (bound i : ℕ) (rest : List (List ℕ)) → Valid bound rest → lines_verdict bound i rest ≡ fine
 lines_good bound i [] h = good_none bound i
 lines_good bound i (line ∷ rest) h =
     let first = h 0 (omega arith) in
@@ -116,7 +114,7 @@ pub record LevelRow (m r : ℕ) (w : List ℕ) : Type 0 where
   pub shape : Shape m r (length w)
   pub symbols : Symbols m w
 
-text_known : (m r : ℕ) (text : List ℕ) (n : ℕ) → levels_read_verdict m r text n ≡ Fine → LevelText m r n text
+text_known : (m r : ℕ) (text : List ℕ) (n : ℕ) → levels_read_verdict m r text n ≡ fine → LevelText m r n text
 unfolding levels_read_verdict
 text_known m r text n e =
     let e₁ = then_fine _ _ e in
@@ -127,19 +125,19 @@ text_known m r text n e =
       count = eqb-true _ _ (not-false _ (refuse_fine _ _ _ e₂.1).0);
     }
 
-text_fine : (m r : ℕ) (text : List ℕ) (n : ℕ) → LevelText m r n text → levels_read_verdict m r text n ≡ Fine
+text_fine : (m r : ℕ) (text : List ℕ) (n : ℕ) → LevelText m r n text → levels_read_verdict m r text n ≡ fine
 unfolding levels_read_verdict and_then refuse
 text_fine m r text n h =
     rw (shape_fine m r n h.shape, lines_good ((2 ^ m) ^ r) 0 (lines text) h.each, eq-eqb (length (lines text)) (n / r) h.count)
 
-row_known : (m r : ℕ) (w : List ℕ) (size : ℕ) → levels_write_verdict m r w size ≡ Fine → LevelRow m r w × (length (row_text m r w) ≤ size)
+row_known : (m r : ℕ) (w : List ℕ) (size : ℕ) → levels_write_verdict m r w size ≡ fine → LevelRow m r w × (length (row_text m r w) ≤ size)
 unfolding levels_write_verdict text_verdict
 row_known m r w size e =
     let e₁ = then_fine _ _ e in
     let e₂ = then_fine _ _ e₁.1 in
     (record { shape = shape_known m r (length w) e₁.0; symbols = symbols_known m w e₂.0 }, ltb-false size _ (refuse_fine _ _ _ e₂.1).0)
 
-row_fine : (m r : ℕ) (w : List ℕ) (size : ℕ) → LevelRow m r w → length (row_text m r w) ≤ size → levels_write_verdict m r w size ≡ Fine
+row_fine : (m r : ℕ) (w : List ℕ) (size : ℕ) → LevelRow m r w → length (row_text m r w) ≤ size → levels_write_verdict m r w size ≡ fine
 unfolding levels_write_verdict text_verdict and_then refuse
 row_fine m r w size h l =
     rw (shape_fine m r (length w) h.shape, symbols_fine m w h.symbols, le-ltb size (length (row_text m r w)) l)
@@ -151,14 +149,14 @@ module _ (m r : ℕ) (text row : List ℕ) where
   levels_read_same a b s t x y = (x.answers ∙ sym y.answers, x.leaves ∙ sym y.leaves)
 
   module _ (a : Answer) (row' : List ℕ) (x : LevelsRead m r text row a row') where
-    pub levels_read_refused : (y : Refusal) → a ≡ No y → row' ≡ row
+    pub levels_read_refused : (y : Refusal) → a ≡ Err y → row' ≡ row
     levels_read_refused y e = x.leaves ∙ kept_refused _ 0 y _ row (sym x.answers ∙ e)
 
-    pub levels_read_done : LevelText m r (length row) text → (a ≡ Done 0) × (row' ≡ text_row m r text)
+    pub levels_read_done : LevelText m r (length row) text → (a ≡ Ok 0) × (row' ≡ text_row m r text)
     unfolding answer kept
     levels_read_done h = let v = text_fine m r text (length row) h in (x.answers ∙ rw v, x.leaves ∙ rw v)
 
-    pub done_levels_read : (d : ℕ) → a ≡ Done d → LevelText m r (length row) text
+    pub done_levels_read : (d : ℕ) → a ≡ Ok d → LevelText m r (length row) text
     done_levels_read d e = text_known m r text (length row) (answer_done _ 0 d (sym x.answers ∙ e))
 
 module _ (m r : ℕ) (w text : List ℕ) where
@@ -166,14 +164,14 @@ module _ (m r : ℕ) (w text : List ℕ) where
   levels_write_same a b s t x y = (x.answers ∙ sym y.answers, x.leaves ∙ sym y.leaves)
 
   module _ (a : Answer) (text' : List ℕ) (x : LevelsWritten m r w text a text') where
-    pub levels_write_refused : (y : Refusal) → a ≡ No y → text' ≡ text
+    pub levels_write_refused : (y : Refusal) → a ≡ Err y → text' ≡ text
     levels_write_refused y e = x.leaves ∙ kept_refused _ _ y _ text (sym x.answers ∙ e)
 
-    pub levels_write_done : LevelRow m r w → length (row_text m r w) ≤ length text → (a ≡ Done (length (row_text m r w))) × (text' ≡ front (row_text m r w) text)
+    pub levels_write_done : LevelRow m r w → length (row_text m r w) ≤ length text → (a ≡ Ok (length (row_text m r w))) × (text' ≡ front (row_text m r w) text)
     unfolding answer kept
     levels_write_done h l = let v = row_fine m r w (length text) h l in (x.answers ∙ rw v, x.leaves ∙ rw v)
 
-    pub done_levels_write : (d : ℕ) → a ≡ Done d → LevelRow m r w × (length (row_text m r w) ≤ length text)
+    pub done_levels_write : (d : ℕ) → a ≡ Ok d → LevelRow m r w × (length (row_text m r w) ≤ length text)
     done_levels_write d e = row_known m r w (length text) (answer_done _ _ d (sym x.answers ∙ e))
 
 -- no text is longer than 4 bytes for each symbol of the longest row
@@ -232,21 +230,21 @@ module _ (m r : ℕ) where
         ap (levels_row (2 ^ m) r) values ∙ row_again (2 ^ m) r h.shape.r_pos (pow_pos m) w h.shape.whole h.symbols
 
   -- a text that is read, and its row written where there is room: the text again
-  pub read_then_write : (text row row' buffer buffer' : List ℕ) (d : ℕ) (b : Answer) → LevelsRead m r text row (Done d) row'
-      → LevelsWritten m r row' buffer b buffer' → length text ≤ length buffer → (b ≡ Done (length text)) × (buffer' ≡ front text buffer)
+  pub read_then_write : (text row row' buffer buffer' : List ℕ) (d : ℕ) (b : Answer) → LevelsRead m r text row (Ok d) row'
+      → LevelsWritten m r row' buffer b buffer' → length text ≤ length buffer → (b ≡ Ok (length text)) × (buffer' ≡ front text buffer)
   read_then_write text row row' buffer buffer' d b x y l =
-      let h = done_levels_read m r text row (Done d) row' x d refl in
-      let is : row' ≡ text_row m r text = (levels_read_done m r text row (Done d) row' x h).1 in
+      let h = done_levels_read m r text row (Ok d) row' x d refl in
+      let is : row' ≡ text_row m r text = (levels_read_done m r text row (Ok d) row' x h).1 in
       let again : row_text m r row' ≡ text = ap (row_text m r) is ∙ row_text_again (length row) text h in
       rw again at
       (levels_write_done m r row' buffer b buffer' y (rw is (text_row_lem (length row) text h)) (omega (arith, ap length again)))
 
   -- a row that is written, and what was written read into a buffer of its length: the row again
-  pub write_then_read : (w buffer buffer' row row' : List ℕ) (d : ℕ) (a : Answer) → LevelsWritten m r w buffer (Done d) buffer'
-      → length row ≡ length w → LevelsRead m r (take d buffer') row a row' → (a ≡ Done 0) × (row' ≡ w)
+  pub write_then_read : (w buffer buffer' row row' : List ℕ) (d : ℕ) (a : Answer) → LevelsWritten m r w buffer (Ok d) buffer'
+      → length row ≡ length w → LevelsRead m r (take d buffer') row a row' → (a ≡ Ok 0) × (row' ≡ w)
   write_then_read w buffer buffer' row row' d a x e y =
-      let k = done_levels_write m r w buffer (Done d) buffer' x d refl in
-      let done = levels_write_done m r w buffer (Done d) buffer' x k.0 k.1 in
+      let k = done_levels_write m r w buffer (Ok d) buffer' x d refl in
+      let done = levels_write_done m r w buffer (Ok d) buffer' x k.0 k.1 in
       let size : length (row_text m r w) ≡ d = cc done.0 in
       let text : take d buffer' ≡ row_text m r w = ap (take d) done.1 ∙ take_front (row_text m r w) buffer d size in
       let read = levels_read_done m r (take d buffer') row a row' y (rw (text, e) (row_text_lem w k.0)) in

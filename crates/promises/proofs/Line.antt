@@ -8,21 +8,19 @@ use native.Mathlib.Omega.{arith}
 use lib.ListN.{length, take}
 use lib.Seq.{take_all}
 use borrow.Author.Tests.{le-ltb}
-use Rattle.defs.specs.Refusal.{refuse, answer}
+use Rattle.defs.specs.Refusal.{refuse, answer, Answer, fine}
 use Rattle.defs.specs.Limits.{longest}
 use Rattle.defs.specs.Slip.{longest_slip}
 use Rattle.defs.specs.Read.{read_verdict}
 use Rattle.defs.specs.Text.{text_verdict}
 use Rattle.defs.specs.Line.{RowLine, decoded, Line, refused, read, Lined}
 use Rattle.defs.specs.declared.Refusal.{Refusal}
-use Rattle.defs.specs.declared.Verdict.TheVariants.{Fine}
-use Rattle.defs.specs.declared.Answer.{Answer}
-use Rattle.defs.specs.declared.Answer.TheVariants.{Done, Refused as No}
 use Rattle.theory.proofs.Verdict.{apart, kept_refused}
 use Rattle.line.specs.Text.{room}
 use Rattle.line.proofs.Lines.{line_short}
 use Rattle.promises.proofs.Decode.{decode_same_line}
 use Rattle.promises.proofs.Enough.{enough_bytes, enough, long_refused}
+use Rattle.std.proofs.Common.{Err, Ok}
 
 -- ---- one outcome
 
@@ -44,7 +42,7 @@ lined_unique bytes buffer a a' b b' u v =
 -- ---- the first 485 bytes decide
 
 -- bytes that are refused alike have the same line
-alike : (s t text : List ℕ) → read_verdict s longest longest ≡ read_verdict t longest longest → (read_verdict s longest longest ≡ Fine → ⊥)
+alike : (s t text : List ℕ) → read_verdict s longest longest ≡ read_verdict t longest longest → (read_verdict s longest longest ≡ fine → ⊥)
     → Line s text → Line t text
 alike s t text e never (refused x v q) = refused x (sym e ∙ v) q
 alike s t text e never (read v row) = absurd (never v)
@@ -73,11 +71,11 @@ lined_decided s t buffer a b e u = record {
 
 -- ---- what the two answers say of the buffer that is left
 
-pub refused_keeps : (bytes buffer : List ℕ) (x : Refusal) (b : List ℕ) → Lined bytes buffer (No x) b → b ≡ buffer
+pub refused_keeps : (bytes buffer : List ℕ) (x : Refusal) (b : List ℕ) → Lined bytes buffer (Err x) b → b ≡ buffer
 refused_keeps bytes buffer x b u = u.leaves ∙ kept_refused _ _ x _ buffer (sym u.answers)
 
 -- with this much room the call is done
-pub done : (bytes buffer : List ℕ) (a : Answer) (b : List ℕ) → room ≤ length buffer → (u : Lined bytes buffer a b) → a ≡ Done (length u.text)
+pub done : (bytes buffer : List ℕ) (a : Answer) (b : List ℕ) → room ≤ length buffer → (u : Lined bytes buffer a b) → a ≡ Ok (length u.text)
 unfolding text_verdict refuse answer
 done bytes buffer a b h u =
     u.answers ∙ rw (le-ltb (length buffer) (length u.text) (omega (arith, line_short bytes u.text u.is_line)))

@@ -8,7 +8,7 @@ use lib.ListN.{length}
 use borrow.Author.Tests.{lt-ltb, le-ltb, eq-eqb, ne_eqb}
 use Rattle.defs.specs.Field.{Width}
 use Rattle.defs.specs.Distance.{distance}
-use Rattle.defs.specs.Refusal.{refuse, and_then, answer}
+use Rattle.defs.specs.Refusal.{refuse, and_then, answer, Answer}
 use Rattle.defs.specs.Limits.{deepest, longest, is_width, numbers_verdict, code_verdict, Within, Inside}
 use Rattle.defs.specs.Encode.{encode_verdict, Encoded, distance_verdict, distance_answer}
 use Rattle.defs.specs.Decode.{decode_verdict, Decoded, refused}
@@ -16,9 +16,7 @@ use Rattle.defs.specs.Slip.{is_edition, layout_of, head_bits, slip_size, longest
 use Rattle.defs.specs.Write.{write_verdict, Written}
 use Rattle.defs.specs.Read.{first_verdict_of, first_verdict, reading, Read}
 use Rattle.defs.specs.declared.Refusal.TheVariants.{Points, Length}
-use Rattle.defs.specs.declared.Verdict.TheVariants.{Refused}
-use Rattle.defs.specs.declared.Answer.{Answer}
-use Rattle.defs.specs.declared.Answer.TheVariants.{Done, Refused as No}
+use Rattle.defs.specs.declared.Refusal.{Refusal}
 use Rattle.defs.specs.declared.SlipRead.{SlipRead}
 use Rattle.theory.proofs.Width.{by_width}
 use Rattle.theory.proofs.Layouts.{layout_top}
@@ -31,6 +29,7 @@ use Rattle.promises.proofs.Decode.{decode_same}
 use Rattle.line.specs.Text.{room}
 use Rattle.promises.proofs.Edition.{refused_by}
 use Rattle.promises.proofs.Enough.{enough_bytes}
+use Rattle.std.proofs.Common.{Err, Ok, Result}
 
 -- so long; of the longest slip so many bytes, and one more decides; and a line has no more than its room
 pub figures : (longest ≡ 240) × ((layout_of 1).top ≡ 128) × ((layout_of 2).top ≡ 240) × (longest_slip ≡ 484) × (enough_bytes ≡ 485) × (room ≡ 1448)
@@ -52,12 +51,12 @@ module _ (edition m r k : ℕ) (points : List ℕ) where
   )
 
 -- so what the reader takes has no longer rows
-pub read_row : (bytes points row points' row' : List ℕ) (s : SlipRead) → Read bytes points row s points' row' → (d : ℕ) → s.answer ≡ Done d
+pub read_row : (bytes points row points' row' : List ℕ) (a : Result SlipRead Refusal) → Read bytes points row a points' row' → (s : SlipRead) → a ≡ Ok s
     → s.r * s.count ≤ (layout_of s.edition).top
 unfolding reading layout_in
-read_row bytes points row points' row' s x d done =
-    let sound = read_sound bytes _ _ (read_fine x d done) in
-    rw (read_numbers x d done) (numbers_top (layout_in bytes).top _ _ _ _ (laid_in bytes).top_low sound.fine)
+read_row bytes points row points' row' a x s done =
+    let sound = read_sound bytes _ _ (read_fine x s done) in
+    rw (read_numbers x s done) (numbers_top (layout_in bytes).top _ _ _ _ (laid_in bytes).top_low sound.is_fine)
 
 -- ---- 3 for a longer row
 
@@ -70,7 +69,7 @@ pub record Over (top m r count : ℕ) : Type 0 where
   pub count_top : count ≤ 2 ^ m
   pub above : top < r * count
 
-numbers_over : (top m r k count : ℕ) → Over top m r count → numbers_verdict top m r k count ≡ Refused Points
+numbers_over : (top m r k count : ℕ) → Over top m r count → numbers_verdict top m r k count ≡ Err Points
 unfolding numbers_verdict refuse
 numbers_over top m r k count o =
     rw (
@@ -83,30 +82,30 @@ numbers_over top m r k count o =
     )
 
 module _ (m r k : ℕ) (points : List ℕ) where
-  code_over : (top : ℕ) → Over top m r (length points) → code_verdict top m r k points ≡ Refused Points
+  code_over : (top : ℕ) → Over top m r (length points) → code_verdict top m r k points ≡ Err Points
   unfolding code_verdict and_then
   code_over top o = rw (numbers_over top m r k (length points) o)
 
   -- encode and decode
   module _ (over : Over longest m r (length points)) where
-    pub encode_over : (message row : List ℕ) (a : Answer) (row' : List ℕ) → Encoded m r k points message row a row' → a ≡ No Points
+    pub encode_over : (message row : List ℕ) (a : Answer) (row' : List ℕ) → Encoded m r k points message row a row' → a ≡ Err Points
     unfolding encode_verdict and_then answer
     encode_over message row a row' x = x.answers ∙ rw (code_over longest over)
 
-    pub decode_over : (w message depth : List ℕ) (a : Answer) (message' depth' : List ℕ) → Decoded m r k points w message depth a message' depth' → a ≡ No Points
+    pub decode_over : (w message depth : List ℕ) (a : Answer) (message' depth' : List ℕ) → Decoded m r k points w message depth a message' depth' → a ≡ Err Points
     unfolding decode_verdict and_then
     decode_over w message depth a message' depth' x =
-        (decode_same m r k points w message depth a (No Points) message' depth' message depth x (refused Points (rw (code_over longest over)) refl refl refl)).0
+        (decode_same m r k points w message depth a (Err Points) message' depth' message depth x (refused Points (rw (code_over longest over)) refl refl refl)).0
 
   -- the writer, by the edition
   pub write_over : (edition : ℕ) → is_edition edition ≡ true → Over (layout_of edition).top m r (length points)
-      → (w bytes : List ℕ) (a : Answer) (bytes' : List ℕ) → Written edition m r k points w bytes a bytes' → a ≡ No Points
+      → (w bytes : List ℕ) (a : Answer) (bytes' : List ℕ) → Written edition m r k points w bytes a bytes' → a ≡ Err Points
   unfolding write_verdict refuse and_then answer
   write_over edition known over w bytes a bytes' x = x.answers ∙ rw (known, code_over (layout_of edition).top over)
 
 -- and the reader, by the edition that it finds
 first_over : (bytes : List ℕ) → is_edition (edition_in bytes) ≡ true → head_bits (layout_in bytes) / 8 ≤ length bytes
-    → Over (layout_in bytes).top (width_in bytes) (depth_in bytes) (count_in bytes) → first_verdict bytes ≡ Refused Points
+    → Over (layout_in bytes).top (width_in bytes) (depth_in bytes) (count_in bytes) → first_verdict bytes ≡ Err Points
 unfolding first_verdict_of refuse and_then
 first_over bytes known whole over =
     rw (
@@ -118,14 +117,14 @@ first_over bytes known whole over =
 
 pub read_over : (bytes : List ℕ) → is_edition (edition_in bytes) ≡ true → head_bits (layout_in bytes) / 8 ≤ length bytes
     → Over (layout_in bytes).top (width_in bytes) (depth_in bytes) (count_in bytes)
-    → (points row points' row' : List ℕ) (s : SlipRead) → Read bytes points row s points' row' → s.answer ≡ No Points
-read_over bytes known whole over points row points' row' s x = refused_by bytes points row points' row' s x Points (first_over bytes known whole over)
+    → (points row points' row' : List ℕ) (a : Result SlipRead Refusal) → Read bytes points row a points' row' → a ≡ Err Points
+read_over bytes known whole over points row points' row' a x = refused_by bytes points row points' row' a x Points (first_over bytes known whole over)
 
 -- ---- distance
 
 -- rows of one length, at most 240 symbols in whole chunks
 pub distance_done : (r : ℕ) (u w : List ℕ) → 0 < r → r ≤ deepest → length u ≡ length w → 0 < length u → length u ≤ longest → length u % r ≡ 0
-    → distance_answer r u w ≡ Done (distance r (length u / r) u w)
+    → distance_answer r u w ≡ Ok (distance r (length u / r) u w)
 unfolding distance_answer distance_verdict refuse answer
 distance_done r u w pos top same some short chunks =
     rw (
@@ -138,7 +137,7 @@ distance_done r u w pos top same some short chunks =
     )
 
 -- 7 for longer ones
-pub distance_over : (r : ℕ) (u w : List ℕ) → 0 < r → r ≤ deepest → length u ≡ length w → longest < length u → distance_answer r u w ≡ No Length
+pub distance_over : (r : ℕ) (u w : List ℕ) → 0 < r → r ≤ deepest → length u ≡ length w → longest < length u → distance_answer r u w ≡ Err Length
 unfolding distance_answer distance_verdict refuse answer
 distance_over r u w pos top same over =
     rw (

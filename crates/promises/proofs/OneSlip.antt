@@ -8,14 +8,12 @@ use native.Mathlib.Omega.{arith}
 use lib.ListN.{length, get_or, take}
 use lib.Seq.{take_all, drop-length}
 use Rattle.defs.specs.Place.{Symbols}
-use Rattle.defs.specs.Refusal.{answer, kept}
+use Rattle.defs.specs.Refusal.{answer, kept, verdict_of, Verdict, fine}
 use Rattle.defs.specs.Slip.{all_bits, number_at, head_bits, slip_size, slip_of, edition_in, layout_in, width_in, depth_in, dimension_in, points_in, row_in, used_in}
 use Rattle.defs.specs.Write.{front, Written}
 use Rattle.defs.specs.Read.{first_verdict_of, first_verdict, head_verdict, read_verdict, reading, Read}
 use Rattle.defs.specs.Roll.{roll_verdict, first_part, joined, walk}
-use Rattle.defs.specs.declared.Verdict.{Verdict}
-use Rattle.defs.specs.declared.Verdict.TheVariants.{Fine, Refused}
-use Rattle.defs.specs.declared.Answer.TheVariants.{Done}
+use Rattle.defs.specs.declared.Refusal.{Refusal}
 use Rattle.defs.specs.declared.SlipRead.{SlipRead}
 use Rattle.slip.proofs.Bits.{number_same}
 use Rattle.slip.proofs.Canonical.{size_is, slip_read_whole}
@@ -27,17 +25,18 @@ use Rattle.roll.proofs.Parts.{none_found}
 use Rattle.promises.proofs.RoundTrip.{round_trip}
 use Rattle.promises.proofs.Roll.{rolls_same, first_some}
 use Rattle.promises.proofs.Walk.{Made, walked, whole_walk, found_whole, left_none}
+use Rattle.std.proofs.Common.{Err, Ok, Result}
 
 -- BYTES THAT THE WRITER MAKES ARE READ, with room for the points and the row
-pub made_read : (bytes : List ℕ) (x : Made bytes) (points row points' row' : List ℕ) (s : SlipRead) → length x.points ≤ length points → length x.w ≤ length row
-    → Read bytes points row s points' row' → s.answer ≡ Done 0
-made_read bytes x points row points' row' s a b t =
-    ap (λ (q : SlipRead). q.answer) (round_trip x.edition x.m x.r x.k x.d x.points x.w x.bytes x.bytes' x.written points row a b s points' row' (rw x.is at t)).0
+pub made_read : (bytes : List ℕ) (x : Made bytes) (points row points' row' : List ℕ) (a : Result SlipRead Refusal) → length x.points ≤ length points → length x.w ≤ length row
+    → Read bytes points row a points' row' → verdict_of a ≡ fine
+made_read bytes x points row points' row' a p q t =
+    rw (round_trip x.edition x.m x.r x.k x.d x.points x.w x.bytes x.bytes' x.written points row p q a points' row' (rw x.is at t)).0
 
 -- AND BYTES THAT ARE READ ARE MADE BY THE WRITER, from the edition, the code and the row that stand in them
-module _ (bytes : List ℕ) (are : Symbols 8 bytes) (points row points' row' : List ℕ) (s : SlipRead) (x : Read bytes points row s points' row') (d : ℕ) (done : s.answer ≡ Done d) where
-  abbrev taken : read_verdict bytes (length points) (length row) ≡ Fine
-  taken = read_fine x d done
+module _ (bytes : List ℕ) (are : Symbols 8 bytes) (points row points' row' : List ℕ) (a : Result SlipRead Refusal) (x : Read bytes points row a points' row') (s : SlipRead) (done : a ≡ Ok s) where
+  abbrev taken : read_verdict bytes (length points) (length row) ≡ fine
+  taken = read_fine x s done
 
   pub whole : slip_of (layout_in bytes) (width_in bytes) (depth_in bytes) (dimension_in bytes) (points_in bytes) (row_in bytes) ≡ bytes
   whole = slip_read_whole bytes are _ _ taken
@@ -45,7 +44,7 @@ module _ (bytes : List ℕ) (are : Symbols 8 bytes) (points row points' row' : L
   size : slip_size (layout_in bytes) (width_in bytes) (length (points_in bytes) + length (row_in bytes)) ≡ length bytes
   size = size_is bytes are (read_sound bytes _ _ taken)
 
-  written : Written (edition_in bytes) (width_in bytes) (depth_in bytes) (dimension_in bytes) (points_in bytes) (row_in bytes) bytes (Done (length bytes)) bytes
+  written : Written (edition_in bytes) (width_in bytes) (depth_in bytes) (dimension_in bytes) (points_in bytes) (row_in bytes) bytes (Ok (length bytes)) bytes
   unfolding answer kept front layout_in
   written =
       let v = writable_fine (edition_in bytes) _ _ _ (points_in bytes) (row_in bytes) (length bytes) record {
@@ -73,21 +72,21 @@ module _ (bytes : List ℕ) (are : Symbols 8 bytes) (points row points' row' : L
   }
 
 -- TWO SLIPS THAT ARE READ WITH EQUAL EDITION, CODE AND ROW ARE EQUAL
-module _ (a b : List ℕ) (a_are : Symbols 8 a) (b_are : Symbols 8 b) (points row points' row' points₁ row₁ points₁' row₁' : List ℕ) (s t : SlipRead)
-    (x : Read a points row s points' row') (y : Read b points₁ row₁ t points₁' row₁') (d e : ℕ) (s_done : s.answer ≡ Done d) (t_done : t.answer ≡ Done e) where
+module _ (a b : List ℕ) (a_are : Symbols 8 a) (b_are : Symbols 8 b) (points row points' row' points₁ row₁ points₁' row₁' : List ℕ) (p q : Result SlipRead Refusal)
+    (x : Read a points row p points' row') (y : Read b points₁ row₁ q points₁' row₁') (s t : SlipRead) (s_done : p ≡ Ok s) (t_done : q ≡ Ok t) where
   pub equal_slips : (s.edition ≡ t.edition) → (s.m ≡ t.m) → (s.r ≡ t.r) → (s.k ≡ t.k) → take s.count points' ≡ take t.count points₁'
       → take (s.r * s.count) row' ≡ take (t.r * t.count) row₁' → a ≡ b
   unfolding reading
-  equal_slips o p q u v w =
-      let s_at = read_numbers x d s_done in
-      let t_at = read_numbers y e t_done in
+  equal_slips o m₁ r₁ u v w =
+      let s_at = read_numbers x s s_done in
+      let t_at = read_numbers y t t_done in
       let edition_same : edition_in a ≡ edition_in b = rw (s_at, t_at) at o in
-      let m_same : width_in a ≡ width_in b = rw (s_at, t_at) at p in
-      let r_same : depth_in a ≡ depth_in b = rw (s_at, t_at) at q in
+      let m_same : width_in a ≡ width_in b = rw (s_at, t_at) at m₁ in
+      let r_same : depth_in a ≡ depth_in b = rw (s_at, t_at) at r₁ in
       let k_same : dimension_in a ≡ dimension_in b = rw (s_at, t_at) at u in
-      let points_same : points_in a ≡ points_in b = sym (points_inside x d s_done) ∙ (rw (s_at, t_at) at v) ∙ points_inside y e t_done in
-      let row_same : row_in a ≡ row_in b = sym (row_inside x d s_done) ∙ (rw (s_at, t_at) at w) ∙ row_inside y e t_done in
-      sym (whole a a_are points row points' row' s x d s_done) ∙ rw (editions_same a b edition_same, m_same, r_same, k_same, points_same, row_same) (whole b b_are points₁ row₁ points₁' row₁' t y e t_done)
+      let points_same : points_in a ≡ points_in b = sym (points_inside x s s_done) ∙ (rw (s_at, t_at) at v) ∙ points_inside y t t_done in
+      let row_same : row_in a ≡ row_in b = sym (row_inside x s s_done) ∙ (rw (s_at, t_at) at w) ∙ row_inside y t t_done in
+      sym (whole a a_are points row points' row' p x s s_done) ∙ rw (editions_same a b edition_same, m_same, r_same, k_same, points_same, row_same) (whole b b_are points₁ row₁ points₁' row₁' q y t t_done)
 
 -- ---- a walk looks at no bit that holds nothing
 
@@ -124,8 +123,8 @@ module _ (s t : List ℕ) (x : Alike s t) where
   none_alike n = go (first_verdict t) refl
     where
       go : (v : Verdict) → first_verdict t ≡ v → length (first_part t) ≡ 0
-      go Fine e = absurd (omega (arith, first_some s (sym alike_first ∙ e)))
-      go (Refused y) e = ap length (none_found t y e)
+      go (Ok _) e = absurd (omega (arith, first_some s (sym alike_first ∙ e)))
+      go (Err y) e = ap length (none_found t y e)
 
 -- ROLLS THAT DIFFER ONLY THERE are walked into slips of the same sizes, and the walk ends alike; a last slip that is cut may differ there too
 pub alike_walk : (roll : List ℕ) (slips : List (List ℕ)) (left : List ℕ) → length slips ≡ length (walk roll).slips

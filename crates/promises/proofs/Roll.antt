@@ -10,23 +10,20 @@ use lib.Dec.{eqb, ltb, lit≤}
 use lib.ListN.{length, take, drop, length-append}
 use lib.Seq.{take_all, take-take, take-append_seam, take-append-le, drop-append_seam}
 use borrow.Author.Tests.{le-ltb}
-use Rattle.defs.specs.Refusal.{number_of, number, refuse, and_then, answer, kept}
+use Rattle.defs.specs.Refusal.{number_of, number, refuse, and_then, answer, kept, Answer, Verdict, fine}
 use Rattle.defs.specs.Slip.{is_edition, layout_of, head_bits, slip_size, longest_slip, edition_in, layout_in, width_in, depth_in, count_in, size_in}
 use Rattle.defs.specs.Read.{first_verdict_of, first_verdict, head_verdict, read_verdict}
 use Rattle.defs.specs.Line.{line_of, Line, refused}
 use Rattle.defs.specs.Roll.{roll_verdict, first_part, rest_part}
 use Rattle.defs.specs.declared.Refusal.{Refusal}
 use Rattle.defs.specs.declared.Refusal.TheVariants.{SlipShort}
-use Rattle.defs.specs.declared.Verdict.{Verdict}
-use Rattle.defs.specs.declared.Verdict.TheVariants.{Fine, Refused}
-use Rattle.defs.specs.declared.Answer.{Answer}
-use Rattle.defs.specs.declared.Answer.TheVariants.{Refused as No}
 use Rattle.theory.proofs.Width.{by_width}
 use Rattle.theory.proofs.Verdict.{apart, then_fine, answer_refused, Every, every_fine}
 use Rattle.slip.proofs.Reader.{numbers_in, laid_in, numbers_are, Begins, header_top, begins, begun, head_fine, sound}
 use Rattle.slip.proofs.Refusals.{first_every}
 use Rattle.roll.proofs.Parts.{others_first, none_found, parts_join, first_within, rest_left, first_found, first_long}
 use Rattle.promises.proofs.Header.{head_bytes, SameHead, layout_same, size_same, numbers_same, head_front, head_part, head_same}
+use Rattle.std.proofs.Common.{Err, Ok}
 
 -- ---- one outcome
 
@@ -39,7 +36,7 @@ roll_parts_same roll s t s' t' p q p' q' = (p ∙ sym p', q ∙ sym q')
 -- ---- the first part
 
 -- a header, and a byte for the point and the symbol that are there at least
-size_bottom : (bytes : List ℕ) → numbers_in bytes ≡ Fine → head_bytes bytes + 1 ≤ size_in bytes
+size_bottom : (bytes : List ℕ) → numbers_in bytes ≡ fine → head_bytes bytes + 1 ≤ size_in bytes
 unfolding size_in slip_size
 size_bottom bytes e =
     let n = numbers_are bytes e in
@@ -51,11 +48,11 @@ size_bottom bytes e =
     )
 
 -- a roll that begins with a slip has a first part
-pub first_some : (roll : List ℕ) → first_verdict roll ≡ Fine → 4 ≤ length (first_part roll)
-first_some roll e = omega (arith, first_long roll e, size_bottom roll (begins roll e).fine, (laid_in roll).bytes_bottom)
+pub first_some : (roll : List ℕ) → first_verdict roll ≡ fine → 4 ≤ length (first_part roll)
+first_some roll e = omega (arith, first_long roll e, size_bottom roll (begins roll e).is_fine, (laid_in roll).bytes_bottom)
 
 -- an empty roll is done, and both parts are empty
-pub empty_done : (roll_verdict [] ≡ Fine) × (first_part [] ≡ []) × (rest_part [] ≡ [])
+pub empty_done : (roll_verdict [] ≡ fine) × (first_part [] ≡ []) × (rest_part [] ≡ [])
 unfolding roll_verdict
 empty_done = (refl, none_left (first_part []) (first_within []), none_left (rest_part []) (omega (arith, length-append (first_part []) (rest_part []), ap length (parts_join []))))
   where
@@ -64,7 +61,7 @@ empty_done = (refl, none_left (first_part []) (first_within []), none_left (rest
     none_left (b ∷ s) l = absurd (omega arith)
 
 -- on a refusal the first part is empty and the part behind is the whole roll
-pub refused_parts : (roll : List ℕ) (x : Refusal) → roll_verdict roll ≡ Refused x → (first_part roll ≡ []) × (rest_part roll ≡ roll)
+pub refused_parts : (roll : List ℕ) (x : Refusal) → roll_verdict roll ≡ Err x → (first_part roll ≡ []) × (rest_part roll ≡ roll)
 unfolding first_part rest_part kept
 refused_parts roll x e = (rw e, rw e)
 
@@ -91,8 +88,8 @@ module _ (a b : List ℕ) (l : length a ≡ length b) (h : take (head_bytes a) a
           rw (l, q.edition, numbers_same q, layout_same q, size_same q)
 
   by_verdict : (v : Verdict) → first_verdict a ≡ v → first_verdict b ≡ v → length (first_part a) ≡ length (first_part b)
-  by_verdict Fine e e' = first_long a e ∙ size_same (heads_same (begins a e).whole) ∙ sym (first_long b e')
-  by_verdict (Refused x) e e' = ap length (none_found a x e ∙ sym (none_found b x e'))
+  by_verdict (Ok _) e e' = first_long a e ∙ size_same (heads_same (begins a e).whole) ∙ sym (first_long b e')
+  by_verdict (Err x) e e' = ap length (none_found a x e ∙ sym (none_found b x e'))
 
   heads_decide : (answer (roll_verdict a) 0 ≡ answer (roll_verdict b) 0) × (length (first_part a) ≡ length (first_part b))
   heads_decide = (ap (λ v. answer v 0) (rolls_same a b l first_same), by_verdict (first_verdict b) first_same refl)
@@ -122,17 +119,17 @@ begins_front s t b =
       long = omega (arith, b.long, length-append s t);
       known = rw h.edition b.known;
       whole = rw (layout_same h) (omega (arith, b.whole, length-append s t));
-      fine = numbers_same h ∙ b.fine;
+      is_fine = numbers_same h ∙ b.is_fine;
       size = omega (arith, size_same h, b.size, length-append s t);
     }
 
 -- a slip is found in front of whatever stands behind it
-module _ (s t : List ℕ) (e : head_verdict s ≡ Fine) where
+module _ (s t : List ℕ) (e : head_verdict s ≡ fine) where
   pub alone : Begins s
   unfolding head_verdict
   alone = begins s (then_fine (first_verdict s) _ e).0
 
-  front_fine : first_verdict (s ++ t) ≡ Fine
+  front_fine : first_verdict (s ++ t) ≡ fine
   front_fine = begun (s ++ t) (begins_front s t alone)
 
   pub front_first : first_part (s ++ t) ≡ s
@@ -144,19 +141,19 @@ module _ (s t : List ℕ) (e : head_verdict s ≡ Fine) where
   front_rest = sym (rest_left (s ++ t)) ∙ ap (λ (u : List ℕ). drop (length u) (s ++ t)) front_first ∙ drop-append_seam s t
 
 -- and what is found is a slip: the reader does not refuse it by 10, 11, 1, 3, 4 or 12
-pub first_whole : (roll : List ℕ) → first_verdict roll ≡ Fine → head_verdict (first_part roll) ≡ Fine
+pub first_whole : (roll : List ℕ) → first_verdict roll ≡ fine → head_verdict (first_part roll) ≡ fine
 first_whole roll e =
     let s = first_part roll in
     let b = begins roll e in
     let size = first_long roll e in
-    let some : head_bytes roll ≤ length s = omega (arith, size, size_bottom roll b.fine) in
+    let some : head_bytes roll ≤ length s = omega (arith, size, size_bottom roll b.is_fine) in
     let whole : head_bytes (s ++ rest_part roll) ≤ length s = rw (parts_join roll) some in
     let q : SameHead roll s = rw (parts_join roll) at (head_part s (rest_part roll) whole) in
-    let first : first_verdict s ≡ Fine = begun s record {
+    let first : first_verdict s ≡ fine = begun s record {
       long = omega (arith, first_some roll e);
       known = rw q.edition at b.known;
       whole = rw (layout_same q) at some;
-      fine = sym (numbers_same q) ∙ b.fine;
+      is_fine = sym (numbers_same q) ∙ b.is_fine;
       size = omega (arith, size_same q, size);
     } in
     sym (head_fine s first (omega (arith, size_same q, size)))
@@ -165,10 +162,10 @@ first_whole roll e =
 
 -- so many bytes are never short of their size
 unsized : (bytes : List ℕ) → longest_slip ≤ length bytes → (v : Verdict) → numbers_in bytes ≡ v
-    → and_then v (refuse (ltb (length bytes) (size_in bytes)) SlipShort Fine) ≡ v
+    → and_then v (refuse (ltb (length bytes) (size_in bytes)) SlipShort fine) ≡ v
 unfolding and_then refuse
-unsized bytes l (Refused x) e = refl
-unsized bytes l Fine e = rw (le-ltb (length bytes) (size_in bytes) (omega (arith, header_top bytes e)))
+unsized bytes l (Err x) e = refl
+unsized bytes l (Ok _) e = rw (le-ltb (length bytes) (size_in bytes) (omega (arith, header_top bytes e)))
 
 module _ (s t : List ℕ) (l : longest_slip ≤ length s) where
   four : 4 ≤ length s
@@ -187,10 +184,10 @@ module _ (s t : List ℕ) (l : longest_slip ≤ length s) where
       (rw (le-ltb (length (s ++ t)) (head_bytes (s ++ t)) (omega (arith, four, (laid_in (s ++ t)).bytes_top)), le-ltb (length s) (head_bytes s) (omega (arith, four, (laid_in s).bytes_top))))
 
   part_front : (v : Verdict) → first_verdict s ≡ v → first_part (s ++ t) ≡ first_part s
-  part_front Fine e =
+  part_front (Ok _) e =
       first_found (s ++ t) (verdict_front ∙ e)
       ∙ ap (λ n. take n (s ++ t)) (size_same sight_head) ∙ take-append-le (size_in s) s t (begins s e).size ∙ sym (first_found s e)
-  part_front (Refused x) e = none_found (s ++ t) x (verdict_front ∙ e) ∙ sym (none_found s x e)
+  part_front (Err x) e = none_found (s ++ t) x (verdict_front ∙ e) ∙ sym (none_found s x e)
 
   pub in_sight : (answer (roll_verdict (s ++ t)) 0 ≡ answer (roll_verdict s) 0) × (first_part (s ++ t) ≡ first_part s)
   in_sight =
@@ -209,7 +206,7 @@ roll_every [] = every_fine
 roll_every (b ∷ s) = first_every is_edition (b ∷ s) refl refl refl refl refl
 
 -- a roll is refused by these alone
-pub roll_refusals : (roll : List ℕ) (x : Refusal) → answer (roll_verdict roll) 0 ≡ No x → rolls (number_of x) ≡ true
+pub roll_refusals : (roll : List ℕ) (x : Refusal) → answer (roll_verdict roll) 0 ≡ Err x → rolls (number_of x) ≡ true
 roll_refusals roll x e = (roll_every roll).of x (answer_refused _ 0 x e)
 
 -- and never by 12
@@ -218,15 +215,15 @@ unfolding answer
 never_long roll e = go (roll_verdict roll) (roll_every roll) e
   where
     go : (v : Verdict) → Every (λ x. rolls (number_of x) ≡ true) v → number (answer v 0) ≡ 12 → ⊥
-    go Fine h q = omega arith
-    go (Refused x) h q = apart (cc (h.of x refl, q))
+    go (Ok _) h q = omega arith
+    go (Err x) h q = apart (cc (h.of x refl, q))
 
 -- AS FOR A SLIP: the reader refuses the same bytes by the same number, whatever room it is given
-pub refused_read : (roll : List ℕ) (x : Refusal) → roll_verdict roll ≡ Refused x → (count n : ℕ) → read_verdict roll count n ≡ Refused x
+pub refused_read : (roll : List ℕ) (x : Refusal) → roll_verdict roll ≡ Err x → (count n : ℕ) → read_verdict roll count n ≡ Err x
 unfolding roll_verdict read_verdict head_verdict and_then
 refused_read [] x e count n = absurd (apart cc)
 refused_read (b ∷ s) x e count n = rw e refl
 
 -- so its line is the reader's
-pub refused_line : (roll : List ℕ) (x : Refusal) → answer (roll_verdict roll) 0 ≡ No x → Line roll (line_of (No x) [] [])
+pub refused_line : (roll : List ℕ) (x : Refusal) → answer (roll_verdict roll) 0 ≡ Err x → Line roll (line_of (Err x) [] [])
 refused_line roll x e = refused x (refused_read roll x (answer_refused (roll_verdict roll) 0 x e) _ _) refl

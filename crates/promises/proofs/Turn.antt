@@ -8,7 +8,7 @@ use lib.Dec.{ltb}
 use lib.ListN.{length, take}
 use borrow.Author.Tests.{ltb-false, le-ltb, eqb-true, not-false}
 use Rattle.defs.specs.Place.{Symbols}
-use Rattle.defs.specs.Refusal.{refuse, and_then, answer, kept}
+use Rattle.defs.specs.Refusal.{refuse, and_then, answer, kept, Answer, fine}
 use Rattle.defs.specs.Limits.{longest, first_twice, Within}
 use Rattle.defs.specs.Slip.{is_edition, layout_of, head_bits, head_size, slip_size, slip_of, edition_in, layout_in, width_in, depth_in, count_in, dimension_in, size_in, points_in, row_in}
 use Rattle.defs.specs.Write.{front}
@@ -18,9 +18,6 @@ use Rattle.defs.specs.Line.{Line, refused, read}
 use Rattle.defs.specs.Turn.{turned, turn_verdict, Turned}
 use Rattle.defs.specs.declared.Refusal.{Refusal}
 use Rattle.defs.specs.declared.Refusal.TheVariants.{Length}
-use Rattle.defs.specs.declared.Verdict.TheVariants.{Fine}
-use Rattle.defs.specs.declared.Answer.{Answer}
-use Rattle.defs.specs.declared.Answer.TheVariants.{Done, Refused as No}
 use Rattle.defs.specs.declared.SlipRead.{SlipRead}
 use Rattle.theory.proofs.Limits.{numbers_top, count_small, limits_within}
 use Rattle.theory.proofs.Verdict.{apart, refuse_fine, then_fine, answer_done, kept_refused}
@@ -30,32 +27,33 @@ use Rattle.slip.proofs.Answered.{read_fine}
 use Rattle.slip.proofs.Canonical.{slip_read_whole}
 use Rattle.slip.proofs.Taken.{limits, read_sound, length_points, length_row, row_low}
 use Rattle.turn.proofs.Turning.{length_turned, by_room}
-use Rattle.promises.proofs.RoundTrip.{edition_back, head, heads_back, points_back, row_back, verdict_back}
+use Rattle.promises.proofs.RoundTrip.{edition_back, width_back, depth_back, count_back, dimension_back, points_back, row_back, verdict_back}
+use Rattle.std.proofs.Common.{Err, Ok, Result}
 
 pub turned_same : {from to : ℕ} {slip bytes : List ℕ} {a b : Answer} {s t : List ℕ} → Turned from to slip bytes a s → Turned from to slip bytes b t → (a ≡ b) × (s ≡ t)
 turned_same x y = (cc (x.answers, y.answers), cc (x.leaves, y.leaves))
 
-pub turn_refused : {from to : ℕ} {slip bytes : List ℕ} {x : Refusal} {bytes' : List ℕ} → Turned from to slip bytes (No x) bytes' → bytes' ≡ bytes
+pub turn_refused : {from to : ℕ} {slip bytes : List ℕ} {x : Refusal} {bytes' : List ℕ} → Turned from to slip bytes (Err x) bytes' → bytes' ≡ bytes
 turn_refused t = t.leaves ∙ kept_refused _ _ _ _ _ (sym t.answers)
 
 -- a slip of the edition from, whose row is not too long for the edition to
 pub record Turnable (from to : ℕ) (slip : List ℕ) : Type 0 where
   pub edition : edition_in slip ≡ from
-  pub readable : read_verdict slip longest longest ≡ Fine
+  pub readable : read_verdict slip longest longest ≡ fine
   pub short : depth_in slip * count_in slip ≤ (layout_of to).top
 
 -- in whose points and row there is room for the longest
-pub room_fine : (slip : List ℕ) → head_verdict slip ≡ Fine → ltb longest (count_in slip) || ltb longest (depth_in slip * count_in slip) ≡ false
+pub room_fine : (slip : List ℕ) → head_verdict slip ≡ fine → ltb longest (count_in slip) || ltb longest (depth_in slip * count_in slip) ≡ false
 room_fine slip f =
     let n = (sound slip f).numbers in
     rw (le-ltb longest (count_in slip) (count_small n), le-ltb longest (depth_in slip * count_in slip) n.row_top)
 
 -- READABLE IS WHAT THE READER TAKES, into whatever buffers
-pub read_readable : {slip points row : List ℕ} {s : SlipRead} {points' row' : List ℕ} → Read slip points row s points' row' → (d : ℕ) → s.answer ≡ Done d
-    → read_verdict slip longest longest ≡ Fine
+pub read_readable : {slip points row : List ℕ} {a : Result SlipRead Refusal} {points' row' : List ℕ} → Read slip points row a points' row' → (s : SlipRead) → a ≡ Ok s
+    → read_verdict slip longest longest ≡ fine
 unfolding read_verdict refuse and_then
-read_readable {slip} {points} {row} x d done =
-    let e = read_fine x d done in
+read_readable {slip} {points} {row} x s done =
+    let e = read_fine x s done in
     let f = read_checked slip (length points) (length row) e in
     rw (
       f,
@@ -65,7 +63,7 @@ read_readable {slip} {points} {row} x d done =
     )
 
 module _ (from to : ℕ) (slip : List ℕ) (size : ℕ) where
-  turn_known : turn_verdict from to slip size ≡ Fine → Turnable from to slip × (length (turned to slip) ≤ size)
+  turn_known : turn_verdict from to slip size ≡ fine → Turnable from to slip × (length (turned to slip) ≤ size)
   unfolding turn_verdict first_verdict_of
   turn_known e =
       let e1 = then_fine _ _ e in
@@ -82,13 +80,13 @@ module _ (from to : ℕ) (slip : List ℕ) (size : ℕ) where
       )
 
   -- only the room is left to look at
-  pub by_size : is_edition from ≡ true → Turnable from to slip → turn_verdict from to slip size ≡ refuse (ltb size (length (turned to slip))) Length Fine
+  pub by_size : is_edition from ≡ true → Turnable from to slip → turn_verdict from to slip size ≡ refuse (ltb size (length (turned to slip))) Length fine
   unfolding refuse
   by_size known t =
       by_room from to slip size (one_edition from slip known t.edition) t.readable
       ∙ rw (le-ltb (layout_of to).top (depth_in slip * count_in slip) t.short)
 
-  turn_fine : is_edition from ≡ true → Turnable from to slip → length (turned to slip) ≤ size → turn_verdict from to slip size ≡ Fine
+  turn_fine : is_edition from ≡ true → Turnable from to slip → length (turned to slip) ≤ size → turn_verdict from to slip size ≡ fine
   unfolding refuse
   turn_fine known t room = by_size known t ∙ rw (le-ltb size (length (turned to slip)) room)
 
@@ -116,10 +114,13 @@ module _ (from to : ℕ) (wanted : is_edition to ≡ true) (slip : List ℕ) (t 
 
   -- THE SAME NUMBERS, POINTS AND SYMBOLS
   pub numbers_kept : (width_in (turned to slip) ≡ m) × (depth_in (turned to slip) ≡ r) × (count_in (turned to slip) ≡ count_in slip) × (dimension_in (turned to slip) ≡ k)
-  unfolding turned head
-  numbers_kept =
-      let h = heads_back to wanted m r k (points_in slip) (row_in slip) within (row_low slip) in
-      (sym h.m_is, sym h.r_is, sym h.count_is ∙ length_points slip, sym h.k_is)
+  unfolding turned
+  numbers_kept = (
+    width_back to wanted m r k (points_in slip) (row_in slip) within (row_low slip),
+    depth_back to wanted m r k (points_in slip) (row_in slip) within (row_low slip),
+    count_back to wanted m r k (points_in slip) (row_in slip) within (row_low slip) ∙ length_points slip,
+    dimension_back to wanted m r k (points_in slip) (row_in slip) within (row_low slip),
+  )
 
   pub points_kept : points_in (turned to slip) ≡ points_in slip
   unfolding turned
@@ -130,7 +131,7 @@ module _ (from to : ℕ) (wanted : is_edition to ≡ true) (slip : List ℕ) (t 
   row_kept = row_back to wanted m r k (points_in slip) (row_in slip) within (row_low slip) row_is
 
   -- THE READER TAKES IT
-  pub turned_read : read_verdict (turned to slip) longest longest ≡ Fine
+  pub turned_read : read_verdict (turned to slip) longest longest ≡ fine
   unfolding turned
   turned_read =
       let n = (read_sound slip longest longest t.readable).numbers in
@@ -168,7 +169,7 @@ module _ (from to : ℕ) (wanted : is_edition to ≡ true) (slip : List ℕ) (t 
     readable = turned_read;
     short =
         let s = read_sound slip longest longest t.readable in
-        rw (numbers_kept.1, numbers_kept.2, ← t.edition) (numbers_top (layout_in slip).top _ _ _ _ (laid_in slip).top_low s.fine);
+        rw (numbers_kept.1, numbers_kept.2, ← t.edition) (numbers_top (layout_in slip).top _ _ _ _ (laid_in slip).top_low s.is_fine);
   }
 
   pub turned_back : Symbols 8 slip → turned from (turned to slip) ≡ slip
@@ -183,23 +184,23 @@ module _ (from to : ℕ) (wanted : is_edition to ≡ true) (slip : List ℕ) (t 
 -- DONE EXACTLY THERE, with room for the result
 module _ (from to : ℕ) (known : is_edition from ≡ true) (slip bytes : List ℕ) where
   pub turn_done : Turnable from to slip → length (turned to slip) ≤ length bytes → {a : Answer} {bytes' : List ℕ} → Turned from to slip bytes a bytes'
-      → (a ≡ Done (length (turned to slip))) × (take (length (turned to slip)) bytes' ≡ turned to slip)
+      → (a ≡ Ok (length (turned to slip))) × (take (length (turned to slip)) bytes' ≡ turned to slip)
   unfolding answer kept
   turn_done t room {a} {bytes'} x =
       let v = turn_fine from to slip (length bytes) known t room in
       let b : bytes' ≡ front (turned to slip) bytes = x.leaves ∙ rw v in
       (x.answers ∙ rw v, ap (take (length (turned to slip))) b ∙ take_front (turned to slip) bytes _ refl)
 
-  pub done_turn : (d : ℕ) {bytes' : List ℕ} → Turned from to slip bytes (Done d) bytes' → Turnable from to slip × (length (turned to slip) ≤ length bytes)
+  pub done_turn : (d : ℕ) {bytes' : List ℕ} → Turned from to slip bytes (Ok d) bytes' → Turnable from to slip × (length (turned to slip) ≤ length bytes)
   done_turn d x = turn_known from to slip (length bytes) (answer_done _ _ d (sym x.answers))
 
 -- OLD TO NEW on every readable slip of edition 1
-pub old_new : (slip : List ℕ) → edition_in slip ≡ 1 → read_verdict slip longest longest ≡ Fine → Turnable 1 2 slip
+pub old_new : (slip : List ℕ) → edition_in slip ≡ 1 → read_verdict slip longest longest ≡ fine → Turnable 1 2 slip
 unfolding layout_of
 old_new slip e f = record { edition = e; readable = f; short = (read_sound slip longest longest f).numbers.row_top }
 
 -- NEW TO OLD exactly where n is at most 128
-pub new_old : (slip : List ℕ) → edition_in slip ≡ 2 → read_verdict slip longest longest ≡ Fine → depth_in slip * count_in slip ≤ 128 → Turnable 2 1 slip
+pub new_old : (slip : List ℕ) → edition_in slip ≡ 2 → read_verdict slip longest longest ≡ fine → depth_in slip * count_in slip ≤ 128 → Turnable 2 1 slip
 unfolding layout_of
 new_old slip e f l = record { edition = e; readable = f; short = l }
 
@@ -219,17 +220,14 @@ old_shorter slip t = omega (arith, size_kept 2 1 refl slip t)
 
 -- OVER AND BACK, from either edition
 pub over_back : (from to : ℕ) → is_edition from ≡ true → is_edition to ≡ true → (slip : List ℕ) → Symbols 8 slip
-    → (bytes bytes' : List ℕ) (d : ℕ) → Turned from to slip bytes (Done d) bytes'
+    → (bytes bytes' : List ℕ) (d : ℕ) → Turned from to slip bytes (Ok d) bytes'
     → (back back' : List ℕ) (b : Answer) → length slip ≤ length back → Turned to from (take d bytes') back b back'
-    → (b ≡ Done (length slip)) × (take (length slip) back' ≡ slip)
+    → (b ≡ Ok (length slip)) × (take (length slip) back' ≡ slip)
 over_back from to known wanted slip are bytes bytes' d x back back' b room y =
     let q = done_turn from to known slip bytes d x in
     let t = q.0 in
     let o = turn_done from to known slip bytes t q.1 x in
-    let e : d ≡ length (turned to slip) = done_same d _ o.0 in
+    let e : d ≡ length (turned to slip) = cc (o.0) in
     let T : take d bytes' ≡ turned to slip = rw e o.1 in
     let same = turned_back from to wanted slip t are in
     rw same at (turn_done to from wanted (turned to slip) back (turnable_back from to wanted slip t) (rw same room) (rw T at y))
-  where
-    done_same : (d e : ℕ) → Done d ≡ Done e → d ≡ e
-    done_same d e q = cc

@@ -4,13 +4,14 @@ use mathlib.Core.Path.{◌≡◌, ◌∙◌}
 use mathlib.Core.List.{List}
 use native.Mathlib.Omega.{arith}
 use lib.ListN.{length}
-use Rattle.defs.specs.Refusal.{number, detail, answer}
+use Rattle.defs.specs.Refusal.{number, detail, answer, Answer}
 use Rattle.defs.specs.Read.{Read}
 use Rattle.defs.specs.Roll.{roll_verdict, first_part}
 use Rattle.defs.specs.Levels.{LevelsRead}
-use Rattle.defs.specs.declared.Answer.{Answer}
+use Rattle.defs.specs.declared.Refusal.{Refusal}
 use Rattle.defs.specs.declared.SlipRead.{SlipRead}
-use Rattle.plq.specs.Packed.{packed, packed_read, packed_roll, packed_line}
+use Rattle.std.proofs.Common.{Result}
+use Rattle.plq.specs.Packed.{shown, told, packed, packed_read, packed_roll, packed_line}
 use Rattle.plq.proofs.Small.{number_small, read_narrow}
 use Rattle.promises.proofs.LevelRefusals.{line_kept}
 
@@ -32,20 +33,20 @@ pub levels_unpacked : (m r : ℕ) (text row : List ℕ) (a : Answer) (row' : Lis
 levels_unpacked m r text row a row' x l = (line_unpacked a).1 ∙ line_kept m r text row a row' x l
 
 -- the parts of a number that packs what the slip reader answers
-pub record Unpacked (p : ℕ) (s : SlipRead) : Type 0 where
-  pub number_is : p % 2 ^ 8 ≡ number s.answer
-  pub m_is : p / 2 ^ 8 % 2 ^ 8 ≡ s.m
-  pub r_is : p / 2 ^ 16 % 2 ^ 8 ≡ s.r
-  pub count_is : p / 2 ^ 24 % 2 ^ 8 ≡ s.count
-  pub k_is : p / 2 ^ 32 % 2 ^ 8 ≡ s.k
-  pub detail_is : p / 2 ^ 40 % 2 ^ 8 ≡ detail s.answer
-  pub edition_is : p / 2 ^ 48 % 2 ^ 8 ≡ s.edition
+pub record Unpacked (p : ℕ) (a : Result SlipRead Refusal) : Type 0 where
+  pub number_is : p % 2 ^ 8 ≡ number (told a)
+  pub m_is : p / 2 ^ 8 % 2 ^ 8 ≡ (shown a).m
+  pub r_is : p / 2 ^ 16 % 2 ^ 8 ≡ (shown a).r
+  pub count_is : p / 2 ^ 24 % 2 ^ 8 ≡ (shown a).count
+  pub k_is : p / 2 ^ 32 % 2 ^ 8 ≡ (shown a).k
+  pub detail_is : p / 2 ^ 40 % 2 ^ 8 ≡ detail (told a)
+  pub edition_is : p / 2 ^ 48 % 2 ^ 8 ≡ (shown a).edition
 
-pub read_unpacked : {bytes points row : List ℕ} {s : SlipRead} {points' row' : List ℕ}
-    → Read bytes points row s points' row' → Unpacked (packed_read s) s
-read_unpacked {s = s} x =
+pub read_unpacked : {bytes points row : List ℕ} {a : Result SlipRead Refusal} {points' row' : List ℕ}
+    → Read bytes points row a points' row' → Unpacked (packed_read a) a
+read_unpacked {a = a} x =
     let n = read_narrow x in
-    let l = number_small s.answer in
+    let l = number_small (told a) in
     record {
       number_is = omega arith;
       m_is = omega arith;

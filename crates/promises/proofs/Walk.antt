@@ -9,12 +9,11 @@ use borrow.Author.Tests.{eq-eqb, ne_eqb}
 use Rattle.defs.specs.Write.{Written}
 use Rattle.defs.specs.Read.{first_verdict, head_verdict}
 use Rattle.defs.specs.Roll.{roll_verdict, first_part, rest_part, Walk, walk_end, walk_on, walk_for, walk, joined}
-use Rattle.defs.specs.declared.Verdict.{Verdict}
-use Rattle.defs.specs.declared.Verdict.TheVariants.{Fine, Refused}
-use Rattle.defs.specs.declared.Answer.TheVariants.{Done}
 use Rattle.roll.proofs.Parts.{none_found, parts_join, first_within}
 use Rattle.promises.proofs.RoundTrip.{written_whole}
 use Rattle.promises.proofs.Roll.{first_some, refused_parts, alone, front_first, front_rest, first_whole}
+use Rattle.std.proofs.Common.{Err, Ok}
+use Rattle.defs.specs.Refusal.{Verdict, fine}
 
 module _ (t : ℕ) (roll : List ℕ) where
   step_end : length (first_part roll) ≡ 0 → walk_for (suc t) roll ≡ walk_end roll
@@ -26,13 +25,13 @@ module _ (t : ℕ) (roll : List ℕ) where
   step_on n = rw (ne_eqb (length (first_part roll)) 0 n)
 
 -- a first part is there only where the roll begins with a slip
-some_fine : (roll : List ℕ) (v : Verdict) → first_verdict roll ≡ v → (length (first_part roll) ≡ 0 → ⊥) → first_verdict roll ≡ Fine
-some_fine roll Fine e n = e
-some_fine roll (Refused x) e n = absurd (n (ap length (none_found roll x e)))
+some_fine : (roll : List ℕ) (v : Verdict) → first_verdict roll ≡ v → (length (first_part roll) ≡ 0 → ⊥) → first_verdict roll ≡ fine
+some_fine roll (Ok _) e n = e
+some_fine roll (Err x) e n = absurd (n (ap length (none_found roll x e)))
 
 -- what holds at the end and is kept by a slip found holds of the walk: so many turns as there are bytes are enough
 module _ (P : List ℕ → Walk → Type 0) (end : (roll : List ℕ) → length (first_part roll) ≡ 0 → P roll (walk_end roll))
-    (on : (roll : List ℕ) (w : Walk) → first_verdict roll ≡ Fine → P (rest_part roll) w → P roll (walk_on (first_part roll) w)) where
+    (on : (roll : List ℕ) (w : Walk) → first_verdict roll ≡ fine → P (rest_part roll) w → P roll (walk_on (first_part roll) w)) where
   one_turn : (t : ℕ) (roll : List ℕ) → length roll ≤ suc t → (length (rest_part roll) ≤ t → P (rest_part roll) (walk_for t (rest_part roll)))
       → Dec (length (first_part roll) ≡ 0) → P roll (walk_for (suc t) roll)
   one_turn t roll l h (yes e) = rw (step_end t roll e) (end roll e)
@@ -48,16 +47,16 @@ module _ (P : List ℕ → Walk → Type 0) (end : (roll : List ℕ) → length 
 -- each is the first slip of the roll from it on, and left stands behind the last one
 abbrev pub Firsts : List (List ℕ) → List ℕ → List ℕ → Type 0
 Firsts [] roll left = roll ≡ left
-Firsts (s ∷ slips) roll left = (first_verdict roll ≡ Fine) × (s ≡ first_part roll) × Firsts slips (rest_part roll) left
+Firsts (s ∷ slips) roll left = (first_verdict roll ≡ fine) × (s ≡ first_part roll) × Firsts slips (rest_part roll) left
 
 -- what a walk over a roll is
 pub record Walked (roll : List ℕ) (w : Walk) : Type 0 where
   pub joins : joined w.slips ++ w.left ≡ roll
   pub each : Firsts w.slips roll w.left
   pub ends : w.ended ≡ roll_verdict w.left
-  pub done : w.ended ≡ Fine → w.left ≡ []
+  pub done : w.ended ≡ fine → w.left ≡ []
 
-all_found : (roll : List ℕ) → length (first_part roll) ≡ 0 → roll_verdict roll ≡ Fine → roll ≡ []
+all_found : (roll : List ℕ) → length (first_part roll) ≡ 0 → roll_verdict roll ≡ fine → roll ≡ []
 unfolding roll_verdict
 all_found [] n e = refl
 all_found (b ∷ s) n e = absurd (omega (arith, first_some (b ∷ s) e))
@@ -79,7 +78,7 @@ walked roll =
 -- ---- slips that were joined
 
 -- in front of something that begins with no slip
-pub whole_walk : (slips : List (List ℕ)) → ((i : ℕ) → i < length slips → head_verdict (get_or slips i []) ≡ Fine) → (left : List ℕ) → length (first_part left) ≡ 0
+pub whole_walk : (slips : List (List ℕ)) → ((i : ℕ) → i < length slips → head_verdict (get_or slips i []) ≡ fine) → (left : List ℕ) → length (first_part left) ≡ 0
     → (t : ℕ) → length (joined slips ++ left) ≤ t → walk_for t (joined slips ++ left) ≡ record { slips = slips; left = left; ended = roll_verdict left }
 unfolding joined walk_end walk_on walk_for
 whole_walk [] h left none zero l = refl
@@ -108,27 +107,27 @@ pub record Made (s : List ℕ) : Type 0 where
   pub w : List ℕ
   pub bytes : List ℕ
   pub bytes' : List ℕ
-  pub written : Written edition m r k points w bytes (Done d) bytes'
+  pub written : Written edition m r k points w bytes (Ok d) bytes'
   pub is : s ≡ take d bytes'
 
-made_whole : (s : List ℕ) → Made s → head_verdict s ≡ Fine
+made_whole : (s : List ℕ) → Made s → head_verdict s ≡ fine
 made_whole s x = rw x.is (written_whole x.edition x.m x.r x.k x.d x.points x.w x.bytes x.bytes' x.written)
 
 -- A ROLL THAT THE WRITER MADE, OF SLIPS OF EITHER EDITION, IS TAKEN APART INTO EXACTLY THE SLIPS WRITTEN, AND IS DONE
-pub made_walk : (slips : List (List ℕ)) → ((i : ℕ) → i < length slips → Made (get_or slips i [])) → walk (joined slips) ≡ record { slips = slips; left = []; ended = Fine }
+pub made_walk : (slips : List (List ℕ)) → ((i : ℕ) → i < length slips → Made (get_or slips i [])) → walk (joined slips) ≡ record { slips = slips; left = []; ended = fine }
 unfolding walk roll_verdict
 made_walk slips h =
     rw (append-nil (joined slips)) at (whole_walk slips (λ i l. made_whole _ (h i l)) [] (omega (arith, first_within [])) (length (joined slips)) (omega (arith, length-append (joined slips) [])))
 
 -- ---- what a walk has found
 
-firsts_whole : (slips : List (List ℕ)) (roll left : List ℕ) → Firsts slips roll left → (i : ℕ) → i < length slips → head_verdict (get_or slips i []) ≡ Fine
+firsts_whole : (slips : List (List ℕ)) (roll left : List ℕ) → Firsts slips roll left → (i : ℕ) → i < length slips → head_verdict (get_or slips i []) ≡ fine
 firsts_whole [] roll left h i l = absurd (omega arith)
 firsts_whole (s ∷ slips) roll left h zero l = rw h.1 (first_whole roll h.0)
 firsts_whole (s ∷ slips) roll left h (suc i) l = firsts_whole slips (rest_part roll) left h.2 i (omega arith)
 
 -- each is a slip by its header and its size
-pub found_whole : (roll : List ℕ) (i : ℕ) → i < length (walk roll).slips → head_verdict (get_or (walk roll).slips i []) ≡ Fine
+pub found_whole : (roll : List ℕ) (i : ℕ) → i < length (walk roll).slips → head_verdict (get_or (walk roll).slips i []) ≡ fine
 found_whole roll = firsts_whole (walk roll).slips roll (walk roll).left (walked roll).each
 
 -- and what is left begins with none
@@ -136,5 +135,5 @@ pub left_none : (roll : List ℕ) → length (first_part (walk roll).left) ≡ 0
 left_none roll = go (walk roll).ended refl
   where
     go : (v : Verdict) → (walk roll).ended ≡ v → length (first_part (walk roll).left) ≡ 0
-    go Fine e = rw ((walked roll).done e) (omega (arith, first_within []))
-    go (Refused x) e = rw (refused_parts (walk roll).left x (sym (walked roll).ends ∙ e)).0
+    go (Ok _) e = rw ((walked roll).done e) (omega (arith, first_within []))
+    go (Err x) e = rw (refused_parts (walk roll).left x (sym (walked roll).ends ∙ e)).0

@@ -1,8 +1,8 @@
 -- Turns of the loops of long division.
 use Prim.Native.Nat.{ℕ, suc, ◌+◌, ◌-◌, ◌^◌, ◌<◌, ◌≤◌}
-use mathlib.Core.Path.{◌≡◌, refl, ap, sym, subst, ◌∙◌}
+use mathlib.Core.Path.{◌≡◌, ap, sym, subst, ◌∙◌}
 use mathlib.Core.List.{List, ◌++◌}
-use native.Mathlib.Decide.{dec_le, dec_lt, ℕ_discrete}
+use native.Mathlib.Decide.{dec_lt, ℕ_discrete}
 use native.Mathlib.Omega.{arith}
 use lib.Bits.{bit_xor}
 use lib.ListN.{length, get_or, drop, set, replicate, length-set, length-append, length-drop, length-replicate, get_or-append, get_or-eq_default}
@@ -10,6 +10,7 @@ use lib.Seq.{get_or-set_same, get_or-set_other, set_out, get_or-append-add, get_
 use Rattle.defs.specs.Field.{add, mul}
 use Rattle.defs.specs.Place.{Symbols}
 use Rattle.defs.specs.Row.{Message}
+use Rattle.defs.specs.Pair.{Zero}
 use Rattle.defs.specs.Limits.{longest}
 use Rattle.defs.specs.Write.{front}
 use Rattle.theory.specs.Poly.{pmul}
@@ -19,22 +20,9 @@ use Rattle.theory.proofs.Field.{add_lt, mul_lt, add_0, mul_0}
 use Rattle.theory.proofs.Place.{zeros_zero}
 use Rattle.theory.proofs.Quotient.{remains_first, remains_found, remains_turn}
 use Rattle.field.specs.Arithmetic.{Element, Products}
-use Rattle.quotient.specs.Quotient.{Terms, TakenOff, Divisible, Divided, Dividing, Quotient}
-
--- coefficients that are 0 from c on, and one more
-pub zeros_down : (q : List ℕ) (c : ℕ) → Deg c q → get_or q (c - 1) 0 ≡ 0 → Deg (c - 1) q
-zeros_down q c z e i l = go (dec_le c i)
-  where
-    go : Dec (c ≤ i) → get_or q i 0 ≡ 0
-    go (yes h) = z i h
-    go (no h) =
-        let s : i ≡ c - 1 = omega arith in
-        ap (λ (x : ℕ). get_or q x 0) s ∙ e
+use Rattle.quotient.specs.Quotient.{Leading, TakenOff, Divided, Dividing, Quotient}
 
 module _ (products q : List ℕ) (at : ℕ) (rem : List ℕ) where
-  pub off_none : TakenOff products q 0 at rem rem
-  off_none = record { size = refl; before = λ p l. refl; off = λ i l. absurd (omega arith); behind = λ p l. refl }
-
   pub off_more : (i : ℕ) (new : List ℕ) → at + i < length rem → TakenOff products q i at rem new
       → TakenOff products q (i + 1) at rem (set new (at + i) (bit_xor (get_or new (at + i) 0) (get_or products (get_or q i 0) 0)))
   unfolding add
@@ -60,12 +48,6 @@ module _ (products q : List ℕ) (at : ℕ) (rem : List ℕ) where
           ∙ ap (λ (x : ℕ). bit_xor x (get_or products (get_or q i 0) 0)) (t.behind (at + i) (omega arith))
           ∙ ap (λ (x : ℕ). bit_xor (get_or rem (at + x) 0) (get_or products (get_or q x 0) 0)) (sym e)
 
-  -- the end of the loop
-  pub off_all : (c i : ℕ) (new : List ℕ) → i ≤ c → c ≤ i → TakenOff products q i at rem new → TakenOff products q c at rem new
-  off_all c i new l l' t =
-      let e : i ≡ c = omega arith in
-      subst (λ (x : ℕ). TakenOff products q x at rem new) e t
-
 set_symbols : (m : ℕ) (s : List ℕ) (i a : ℕ) → a < 2 ^ m → Symbols m s → Symbols m (set s i a)
 set_symbols m s i a l h j = go (ℕ_discrete j i) (dec_lt i (length s))
   where
@@ -75,29 +57,31 @@ set_symbols m s i a l h j = go (ℕ_discrete j i) (dec_lt i (length s))
     go (no e) b = rw (get_or-set_other s i j a 0 e) (h j)
 
 -- one coefficient of the quotient
-pub divided : (m v : ℕ) (q : List ℕ) (c at : ℕ) (rem : List ℕ) (a : ℕ) (products rem' : List ℕ) → Divisible m v q c at rem
-    → Element m (mul m (get_or rem (at + (c - 1)) 0) v) a → Products m a products → TakenOff products q c at rem rem'
-    → Divided m v q c at rem a rem'
-divided m v q c at rem a products rem' d e p t =
+pub divided : (m : ℕ) (q : List ℕ) (inverse at : ℕ) (rem : List ℕ) (a : ℕ) (products rem' : List ℕ) → Symbols m q → Symbols m rem
+    → Element m (mul m (get_or rem (at + (length q - 1)) 0) inverse) a → Products m a products → TakenOff products q (length q) at rem rem'
+    → Divided m q inverse at rem a rem'
+divided m q inverse at rem a products rem' q_in rem_in e p t =
     record {
       is = e.is;
       small = e.small;
-      symbols = λ x. symbol x (dec_lt x at) (dec_lt x (at + c));
+      symbols = λ x. symbol x (dec_lt x at);
       size = t.size;
       before = t.before;
-      off = off;
-      behind = t.behind;
+      off = λ i. off i (dec_lt i (length q));
     }
   where
-    off : (i : ℕ) → i < c → get_or rem' (at + i) 0 ≡ add (get_or rem (at + i) 0) (mul m a (get_or q i 0))
-    off i l = t.off i l ∙ ap (add (get_or rem (at + i) 0)) (p.at (get_or q i 0) (d.divisor i))
+    off : (i : ℕ) → Dec (i < length q) → get_or rem' (at + i) 0 ≡ add (get_or rem (at + i) 0) (mul m a (get_or q i 0))
+    off i (yes l) = t.off i l ∙ ap (add (get_or rem (at + i) 0)) (p.at (get_or q i 0) (q_in i))
+    off i (no l) =
+        let none : get_or q i 0 ≡ 0 = get_or-eq_default q 0 (omega arith) in
+        rw (none, mul_0, add_0) (t.behind (at + i) (omega arith))
 
-    symbol : (x : ℕ) → Dec (x < at) → Dec (x < at + c) → get_or rem' x 0 < 2 ^ m
-    symbol x (yes l) h = rw (t.before x l) (d.dividend x)
-    symbol x (no l) (no h) = rw (t.behind x (omega arith)) (d.dividend x)
-    symbol x (no l) (yes h) =
+    symbol : (x : ℕ) → Dec (x < at) → get_or rem' x 0 < 2 ^ m
+    symbol x (yes l) = rw (t.before x l) (rem_in x)
+    symbol x (no l) =
         let e : at + (x - at) ≡ x = omega arith in
-        subst (λ (y : ℕ). get_or rem' y 0 < 2 ^ m) e (rw (off (x - at) (omega arith)) (add_lt m _ _ (d.dividend _) (mul_lt m a _)))
+        subst (λ (y : ℕ). get_or rem' y 0 < 2 ^ m) e
+        (rw (off (x - at) (dec_lt (x - at) (length q))) (add_lt m _ _ (rem_in _) (mul_lt m a _)))
 
 -- a list with zeros behind it has its coefficients
 front_zeros : (q : List ℕ) (n : ℕ) → Same (front q (replicate n 0)) q
@@ -128,7 +112,7 @@ pub record Going (m k : ℕ) (q₀ q₁ f rem : List ℕ) (at : ℕ) : Type 0 wh
   pub found : (g : List ℕ) → Message m k g → Same q₀ (pmul m g q₁)
       → Remains m g q₁ at (λ x. get_or rem x 0) × ((i : ℕ) → at ≤ i → i < k → get_or f i 0 ≡ get_or g i 0)
 
-module _ (m k : ℕ) (q₀ q₁ : List ℕ) (d : Dividing m k q₀ q₁) (c : ℕ) (t : Terms q₁ c) where
+module _ (m k : ℕ) (q₀ q₁ : List ℕ) (d : Dividing m k q₀ q₁) where
   -- rem has q₀, and 0 behind it
   pub going_first : (f rem : List ℕ) → length f ≡ longest → Symbols m f → rem ≡ front q₀ (replicate longest 0) → Going m k q₀ q₁ f rem k
   going_first f rem e s h =
@@ -142,10 +126,10 @@ module _ (m k : ℕ) (q₀ q₁ : List ℕ) (d : Dividing m k q₀ q₁) (c : �
         found = λ g g_is eq. (remains_first m q₁ g rem k g_is.size (λ i. same i ∙ eq i), λ i l l'. absurd (omega arith));
       }
 
-  module _ (v : ℕ) (some : 0 < c) (unit : mul m (get_or q₁ (c - 1) 0) v ≡ 1) where
-    going_more : (f rem : List ℕ) (i a : ℕ) (rem' : List ℕ) → i < longest → Going m k q₀ q₁ f rem (suc i)
-        → Divided m v q₁ c i rem a rem' → Going m k q₀ q₁ (set f i a) rem' i
-    going_more f rem i a rem' low x y =
+  module _ (q : List ℕ) (lead : Leading q₁ q) (some : 0 < length q) (v : ℕ) (unit : mul m (get_or q (length q - 1) 0) v ≡ 1) where
+    going_more : (f rem : List ℕ) (i a : ℕ) (rem' : List ℕ) → Going m k q₀ q₁ f rem (suc i)
+        → Divided m q v i rem a rem' → Going m k q₀ q₁ (set f i a) rem' i
+    going_more f rem i a rem' x y =
         record {
           long = length-set f i a ∙ x.long;
           symbols = set_symbols m f i a y.small x.symbols;
@@ -155,50 +139,30 @@ module _ (m k : ℕ) (q₀ q₁ : List ℕ) (d : Dividing m k q₀ q₁) (c : �
           found = λ g g_is same. turn g g_is (x.found g g_is same);
         }
       where
-        off : (g : List ℕ) → a ≡ get_or g i 0 → (j : ℕ) → Dec (j < c)
-            → get_or rem' (i + j) 0 ≡ add (get_or rem (i + j) 0) (mul m (get_or g i 0) (get_or q₁ j 0))
-        off g is j (yes l) = rw (← is) (y.off j l)
-        off g is j (no l) = rw (t.above j (omega arith), mul_0, add_0) (y.behind (i + j) (omega arith))
+        low : i < length f
+        low = omega (arith, x.long, x.within, some, lead.within, d.room, d.long)
 
         last : (g : List ℕ) → a ≡ get_or g i 0 → ((j : ℕ) → suc i ≤ j → j < k → get_or f j 0 ≡ get_or g j 0)
             → (j : ℕ) → i ≤ j → j < k → Dec (j ≡ i) → get_or (set f i a) j 0 ≡ get_or g j 0
-        last g is done j l l' (yes e) = rw (e, get_or-set_same f i a 0 (omega (arith, x.long))) is
+        last g is done j l l' (yes e) = rw (e, get_or-set_same f i a 0 low) is
         last g is done j l l' (no e) = get_or-set_other f i j a 0 e ∙ done j (omega arith) l'
 
         turn : (g : List ℕ) → Message m k g → Remains m g q₁ (suc i) (λ x. get_or rem x 0) × ((j : ℕ) → suc i ≤ j → j < k → get_or f j 0 ≡ get_or g j 0)
             → Remains m g q₁ i (λ x. get_or rem' x 0) × ((j : ℕ) → i ≤ j → j < k → get_or (set f i a) j 0 ≡ get_or g j 0)
         turn g g_is (remains, done) =
-            let deg : Deg (suc (c - 1)) q₁ = λ j l. t.above j (omega arith) in
-            let is : a ≡ get_or g i 0 = y.is ∙ remains_found m q₁ g (c - 1) i v (λ x. get_or rem x 0) deg remains (g_is.symbols i) unit in (
-              remains_turn m q₁ g i (λ x. get_or rem x 0) (λ x. get_or rem' x 0) remains y.before (λ j. off g is j (dec_lt j c)),
+            let deg : Deg (suc (length q - 1)) q₁ = λ j l. sym (lead.same j) ∙ get_or-eq_default q 0 (omega arith) in
+            let top : mul m (get_or q₁ (length q - 1) 0) v ≡ 1 = rw (lead.same (length q - 1)) at unit in
+            let is : a ≡ get_or g i 0 = y.is ∙ remains_found m q₁ g (length q - 1) i v (λ x. get_or rem x 0) deg remains (g_is.symbols i) top in (
+              remains_turn m q₁ g i (λ x. get_or rem x 0) (λ x. get_or rem' x 0) remains y.before (λ j. rw (← is, ← lead.same j) (y.off j)),
               λ j l l'. last g is done j l l' (ℕ_discrete j i),
             )
 
     pub going_turn : (f rem : List ℕ) (at a : ℕ) (rem' : List ℕ) → 0 < at → Going m k q₀ q₁ f rem at
-        → Divided m v q₁ c (at - 1) rem a rem' → Going m k q₀ q₁ (set f (at - 1) a) rem' (at - 1)
+        → Divided m q v (at - 1) rem a rem' → Going m k q₀ q₁ (set f (at - 1) a) rem' (at - 1)
     going_turn f rem at a rem' l x y =
         let e : at ≡ suc (at - 1) = omega arith in
-        going_more f rem (at - 1) a rem' (omega (arith, x.within, d.room, d.long, some, t.within)) (subst (Going m k q₀ q₁ f rem) e x) y
+        going_more f rem (at - 1) a rem' (subst (Going m k q₀ q₁ f rem) e x) y
 
-    pub going_divisible : (f rem : List ℕ) (at : ℕ) → v < 2 ^ m → 0 < at → Going m k q₀ q₁ f rem at → Divisible m v q₁ c (at - 1) rem
-    going_divisible f rem at small l x =
-        record {
-          width = d.width;
-          inverse = small;
-          divisor = d.symbols₁;
-          dividend = x.symbols_rem;
-          some = some;
-          fits =
-              record {
-                long = t.within;
-                room = omega (arith, t.within, d.room, d.long, x.within, x.long_rem);
-              };
-        }
-
-  -- the end of the loop, and where q₁ is 0
-  pub going_last : (f rem : List ℕ) (at : ℕ) → at ≤ 0 → Going m k q₀ q₁ f rem at → Quotient m k q₀ q₁ f
-  going_last f rem at l x =
-      record { long = x.long; symbols = x.symbols; exact = λ g g_is ne same i l'. (x.found g g_is same).1 i (omega arith) l' }
-
-  pub no_divisor : (f : List ℕ) → c ≡ 0 → length f ≡ longest → Symbols m f → Quotient m k q₀ q₁ f
-  no_divisor f e long s = record { long = long; symbols = s; exact = λ g g_is ne same. absurd (ne (λ i. t.above i (omega arith))) }
+  -- where q₁ is 0
+  pub no_divisor : (f : List ℕ) → Zero q₁ → length f ≡ longest → Symbols m f → Quotient m k q₀ q₁ f
+  no_divisor f e long s = record { long = long; symbols = s; exact = λ g g_is ne same. absurd (ne e) }

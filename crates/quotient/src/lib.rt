@@ -1,65 +1,85 @@
 // The quotient of two polynomials, where there is an exact one: long division from the top.
 #![tactic(auto)]
 
-ghost use Rattle.std.specs.Prelude.{◌≡◌, length};
-ghost use Rattle.quotient.specs.Quotient.{Terms, Fits, TakenOff, Divisible, Divided, Dividing, Quotient};
+ghost use Rattle.std.specs.Prelude.{◌≡◌, ◌+◌, ◌-◌, ◌^◌, ◌<◌, ◌≤◌, length, get_or, MatchOption};
+ghost use Rattle.defs.specs.Field.{mul};
+ghost use Rattle.defs.specs.Place.{Symbols};
+ghost use Rattle.defs.specs.Pair.{Zero};
+ghost use Rattle.theory.specs.Vanish.{Deg};
+ghost use Rattle.quotient.specs.Quotient.{Leading, TakenOff, Divided, Dividing, Quotient};
 
 use defs::LONGEST;
+use field::Field;
 
-// How many coefficients of q there are up to the highest that is not zero.
-fn terms(q: &[u8]) -> usize
-    ensures { Terms q.now result }
-{
-    let mut c = q.len();
-    while 0 < c {
-        if q[c - 1] != 0 {
-            return c;
-        }
-        c -= 1;
-    }
-    c
+// What is divided by: coefficients of which the highest is not zero, and the inverse of that one.
+#[derive(Drop)]
+struct Divisor<'a> {
+    field: Field,
+    q: &'a [u8],
+    inverse: u8,
+    ghost symbols: { Symbols field.m q.now },
+    ghost some: { 0 < length q.now },
+    ghost unit: { mul field.m (get_or q.now (length q.now - 1) 0) inverse ≡ 1 },
+    ghost small: { inverse < 2 ^ field.m },
 }
 
-// Takes a multiple of the first c coefficients of q off rem, at places up; products has the multiples.
-fn take_off(products: &[u8; 256], q: &[u8], c: usize, at: usize, rem: &mut [u8])
-    requires { (length products.now ≡ 256) × Fits q.now c at rem.old }
-    ensures { TakenOff products.now q.now c at rem.old rem.new }
-{
-    let mut i = 0;
-    while i < c {
-        rem[at + i] = rem[at + i] ^ products[q[i] as usize];
-        i += 1;
+impl<'a> Divisor<'a> {
+    // q as a divisor; none where all of it is zero.
+    fn of(field: Field, q: &'a [u8]) -> Option<Divisor<'a>>
+        requires { Symbols field.m q.now }
+        ensures { MatchOption result (Zero q.now) (λ d. (d.field.m ≡ field.m) × Leading q.now d.q.now) }
+    {
+        let top = top_of(q)?;
+        Some(Divisor {
+            field,
+            q: &q[..=top],
+            inverse: field.inverse(q[top]),
+        })
+    }
+
+    // The coefficient at places up of the quotient, which is taken off rem.
+    fn divide_at(&self, at: usize, rem: &mut [u8]) -> u8
+        requires { Symbols self.now.field.m rem.old × (at + length self.now.q.now ≤ length rem.old) }
+        ensures { Divided self.now.field.m self.now.q.now self.now.inverse at rem.old result rem.new }
+    {
+        let top = at + (self.q.len() - 1);
+        let a = self.field.mul(rem[top], self.inverse);
+        let products = self.field.product_row(a);
+        take_off(&products, self.q, at, rem);
+        a // the coefficient found
     }
 }
 
-// The coefficient at places up of the quotient by q, which is taken off rem; v is the inverse of q's highest coefficient.
-fn divide_at(m: usize, v: u8, q: &[u8], c: usize, at: usize, rem: &mut [u8]) -> u8
-    requires { Divisible m v q.now c at rem.old }
-    ensures { Divided m v q.now c at rem.old result rem.new }
+// The place of the highest coefficient that is not zero.
+fn top_of(q: &[u8]) -> Option<usize>
+    ensures { MatchOption result (Zero q.now) (λ t. (t < length q.now) × ((get_or q.now t 0 ≡ 0 → ⊥) × Deg (t + 1) q.now)) }
 {
-    let a = field::mul(m, rem[at + (c - 1)], v);
-    let products = field::product_row(m, a);
-    take_off(&products, q, c, at, rem);
-    a // the coefficient found
+    q.iter().rposition(|&a| a != 0)
+}
+
+// Takes a multiple of q off rem, at places up; products has the multiples of q's coefficients.
+fn take_off(products: &[u8; 256], q: &[u8], at: usize, rem: &mut [u8])
+    requires { (length products.now ≡ 256) × (at + length q.now ≤ length rem.old) }
+    ensures { TakenOff products.now q.now (length q.now) at rem.old rem.new }
+{
+    for i in 0..q.len() {
+        rem[at + i] ^= products[usize::from(q[i])];
+    }
 }
 
 // The quotient of k coefficients, from the top down.
-pub fn quotient(m: usize, k: usize, q0: &[u8], q1: &[u8]) -> [u8; LONGEST]
-    requires { Dividing m k q0.now q1.now }
-    ensures { Quotient m k q0.now q1.now result }
+pub fn quotient(field: Field, k: usize, q0: &[u8], q1: &[u8]) -> [u8; LONGEST]
+    requires { Dividing field.m k q0.now q1.now }
+    ensures { Quotient field.m k q0.now q1.now result }
 {
-    let mut f = [0u8; LONGEST];
-    let c = terms(q1);
-    if c == 0 {
+    let mut f = [0; LONGEST];
+    let Some(divisor) = Divisor::of(field, q1) else {
         return f;
-    }
-    let v = field::inverse(m, q1[c - 1]);
-    let mut rem = [0u8; LONGEST];
-    code::copy(q0, &mut rem);
-    let mut at = k;
-    while 0 < at {
-        at -= 1;
-        f[at] = divide_at(m, v, q1, c, at, &mut rem);
+    };
+    let mut rem = [0; LONGEST];
+    rem[..q0.len()].copy_from_slice(q0);
+    for at in (0..k).rev() {
+        f[at] = divisor.divide_at(at, &mut rem);
     }
     f
 }

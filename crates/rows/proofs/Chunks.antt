@@ -1,42 +1,38 @@
--- How the agreement of two chunks grows symbol by symbol.
-use Prim.Native.Nat.{ℕ, ◌+◌, ◌<◌, ◌≤◌}
-use mathlib.Core.Path.{◌≡◌, ap, sym, ◌∙◌}
+-- What a chunk is whose symbols are written one by one, and how deep two chunks agree.
+use Prim.Native.Nat.{ℕ, suc, ◌<◌, ◌≤◌}
+use mathlib.Core.Path.{◌≡◌, refl, ap, sym, ◌∙◌}
+use mathlib.Core.Bool.{Bool, true, false, cond, not}
+use mathlib.Core.List.{List, [], ◌∷◌}
 use native.Mathlib.Decide.{dec_lt}
 use native.Mathlib.Omega.{arith}
+use lib.Dec.{eqb}
+use lib.ListN.{length, get_or}
+use lib.Seq.{ext_get_or}
+use Rattle.std.specs.List.{take_while, zip}
+use Rattle.std.proofs.lemmas.List.Sums.{take_while-cons}
+use Rattle.defs.specs.Place.{least}
 use Rattle.defs.specs.Distance.{agree}
-use Rattle.theory.proofs.Agree.{agree_le, agree_eq, agree_max}
+use Rattle.defs.specs.Limits.{deepest}
+use Rattle.code.specs.Chunk.{chunk_of}
+use Rattle.code.proofs.Chunks.{chunk_at, length_chunk, chunk_behind}
+use Rattle.rows.specs.Chunk.{common_front}
 
-module _ (u v : ℕ → ℕ) where
-  pub agree_none : 0 ≡ agree 0 u v
-  agree_none = omega (arith, agree_le 0 u v)
+-- the first r symbols are written, and the others are 0
+pub chunk_is : (r : ℕ) (F : ℕ → ℕ) (chunk : List ℕ) → length chunk ≡ deepest → r ≤ deepest → ((j : ℕ) → j < r → get_or chunk j 0 ≡ F j)
+    → ((j : ℕ) → r ≤ j → get_or chunk j 0 ≡ 0) → chunk ≡ chunk_of r F
+chunk_is r F chunk size h written rest = ext_get_or 0 chunk (chunk_of r F) (size ∙ sym (length_chunk r F h)) (λ j l. go j (dec_lt j r))
+  where
+    go : (j : ℕ) → Dec (j < r) → get_or chunk j 0 ≡ get_or (chunk_of r F) j 0
+    go j (yes y) = written j y ∙ sym (chunk_at r F j y)
+    go j (no n) = rest j (omega arith) ∙ sym (chunk_behind r F j (omega arith))
 
-  module _ (j : ℕ) where
-    grows : agree j u v ≤ agree (j + 1) u v
-    grows = agree_max (j + 1) (agree j u v) u v (omega (arith, agree_le j u v)) (λ i l. agree_eq j u v i l)
-
-    -- the symbols before j agree, and so do those at j
-    pub agree_more : agree j u v ≡ j → u j ≡ v j → j + 1 ≡ agree (j + 1) u v
-    agree_more e h = let l : j + 1 ≤ agree (j + 1) u v = agree_max (j + 1) (j + 1) u v (omega arith) all in omega (arith, agree_le (j + 1) u v)
-      where
-        all : (i : ℕ) → i < j + 1 → u i ≡ v i
-        all i l = go (dec_lt i j)
-          where
-            go : Dec (i < j) → u i ≡ v i
-            go (yes k) = agree_eq j u v i (omega (arith, e))
-            go (no k) = let q : i ≡ j = omega arith in ap u q ∙ h ∙ ap v (sym q)
-
-    -- they agree, and those at j do not
-    pub agree_stops : agree j u v ≡ j → (u j ≡ v j → ⊥) → agree j u v ≡ agree (j + 1) u v
-    agree_stops e h = go (dec_lt j (agree (j + 1) u v))
-      where
-        go : Dec (j < agree (j + 1) u v) → agree j u v ≡ agree (j + 1) u v
-        go (yes k) = absurd (h (agree_eq (j + 1) u v j k))
-        go (no k) = omega (arith, e, grows)
-
-    -- they have parted before
-    pub agree_stays : (agree j u v ≡ j → ⊥) → agree j u v ≡ agree (j + 1) u v
-    agree_stays n = go (dec_lt (agree j u v) (agree (j + 1) u v))
-      where
-        go : Dec (agree j u v < agree (j + 1) u v) → agree j u v ≡ agree (j + 1) u v
-        go (yes k) = absurd (omega (arith, agree_max j (agree j u v + 1) u v (omega (arith, agree_le j u v, n)) (λ i l. agree_eq (j + 1) u v i (omega arith))))
-        go (no k) = omega (arith, grows)
+pub front_agrees : (u v : List ℕ) → length u ≡ length v → common_front u v ≡ agree (length u) (λ j. get_or u j 0) (λ j. get_or v j 0)
+unfolding agree least
+front_agrees [] v e = refl
+front_agrees (x ∷ u) [] e = absurd (omega arith)
+front_agrees (x ∷ u) (y ∷ v) e = rw (take_while-cons (λ p. eqb p.0 p.1) (x, y) (zip u v)) (go (eqb x y) (front_agrees u v (omega arith)))
+  where
+    go : (b : Bool) → common_front u v ≡ agree (length u) (λ j. get_or u j 0) (λ j. get_or v j 0)
+        → length (cond b ((x, y) ∷ take_while (λ p. eqb p.0 p.1) (zip u v)) []) ≡ cond (not b) 0 (suc (least (λ j. not (eqb (get_or u j 0) (get_or v j 0))) (length u)))
+    go true h = ap suc h
+    go false h = refl

@@ -1,37 +1,52 @@
 -- Damage and distance as the loops find them.
 use Prim.Native.Nat.{ℕ, ◌+◌, ◌*◌, ◌-◌, ◌<◌, ◌≤◌}
-use mathlib.Core.Path.{◌≡◌, refl, ap, ◌∙◌}
+use mathlib.Core.Path.{◌≡◌, refl, ap, sym, ◌∙◌}
 use mathlib.Core.List.{List}
 use native.Mathlib.Nat.{mul-le-mul_right, suc-mul}
 use native.Mathlib.Numerals.{add-one}
 use native.Mathlib.Omega.{arith}
-use lib.ListN.{length, get_or}
+use lib.ListN.{length, get_or, take, drop, length-drop}
+use lib.Seq.{length-take-le, get_or-drop}
+use Rattle.std.proofs.lemmas.List.{get_or-take}
 use Rattle.defs.specs.Place.{total}
-use Rattle.defs.specs.Distance.{agree, agree_at, damage, distance}
-use Rattle.theory.proofs.Agree.{agree_ext}
-use Rattle.code.specs.Chunk.{chunk_of}
-use Rattle.rows.specs.Chunk.{Chunks, Rows}
-use Rattle.code.proofs.Chunks.{chunk_at}
+use Rattle.defs.specs.Distance.{symbol, agree, agree_at, damage, distance}
+use Rattle.theory.proofs.Agree.{agree_le, agree_ext}
+use Rattle.rows.specs.Chunk.{common_front, Rows}
+use Rattle.rows.proofs.Chunks.{front_agrees}
 
 -- chunk i ends within a row of count chunks
 pub chunk_within : (r i count n : ℕ) → i < count → count * r ≤ n → i * r + r ≤ n
 chunk_within r i count n l h = omega (arith, mul-le-mul_right r l, suc-mul i r)
 
-pub rows_chunk : (r count : ℕ) (u w : List ℕ) (i : ℕ) → Rows r count u w → i < count → Chunks r u w i
-rows_chunk r count u w i h l = record {
-  depth = h.depth;
-  left = chunk_within r i count (length u) l h.left;
-  right = chunk_within r i count (length w) l h.right;
-}
-
 module _ (r : ℕ) (u w : List ℕ) where
-  -- x and y are the two chunks, and s the depth to which they agree
-  pub damage_found : (i : ℕ) (x y : List ℕ) (s : ℕ) → x ≡ chunk_of r (λ j. get_or u (i * r + j) 0) → y ≡ chunk_of r (λ j. get_or w (i * r + j) 0)
-      → s ≡ agree r (λ j. get_or x j 0) (λ j. get_or y j 0) → r - s ≡ damage r u w i
+  -- the chunk i of a row, as the slice of it reads
+  chunk : List ℕ → ℕ → List ℕ
+  chunk s i = take (i * r + r - i * r) (drop (i * r) s)
+
+  long : (s : List ℕ) (i : ℕ) → i * r + r ≤ length s → length (chunk s i) ≡ r
+  unfolding chunk
+  long s i h = length-take-le (i * r + r - i * r) (drop (i * r) s) (omega (arith, length-drop (i * r) s)) ∙ omega arith
+
+  symbol_at : (s : List ℕ) (i j : ℕ) → j < r → get_or (chunk s i) j 0 ≡ get_or s (i * r + j) 0
+  unfolding chunk
+  symbol_at s i j l = get_or-take (i * r + r - i * r) (drop (i * r) s) j 0 (omega arith) ∙ get_or-drop (i * r) s j 0
+
+  front_at : (i count : ℕ) → Rows r count u w → i < count
+      → common_front (take (i * r + r - i * r) (drop (i * r) u)) (take (i * r + r - i * r) (drop (i * r) w)) ≡ agree_at r u w i
+  unfolding agree_at chunk
+  front_at i count h b =
+      let e : length (chunk u i) ≡ r = long u i (chunk_within r i count (length u) b h.left) in
+      front_agrees (chunk u i) (chunk w i) (e ∙ sym (long w i (chunk_within r i count (length w) b h.right)))
+      ∙ ap (λ (n : ℕ). agree n (λ j. get_or (chunk u i) j 0) (λ j. get_or (chunk w i) j 0)) e
+      ∙ agree_ext r _ _ _ _ (symbol_at u i) (symbol_at w i)
+
+  -- s symbols in front of chunk i are alike in both rows
+  pub damage_found : (i count s : ℕ) → Rows r count u w → i < count
+      → s ≡ common_front (take (i * r + r - i * r) (drop (i * r) u)) (take (i * r + r - i * r) (drop (i * r) w)) → (s ≤ r) × (r - s ≡ damage r u w i)
   unfolding damage agree_at
-  damage_found i x y s e f g =
-      ap (λ (n : ℕ). r - n)
-      (g ∙ agree_ext r _ _ _ _ (λ j l. ap (λ (c : List ℕ). get_or c j 0) e ∙ chunk_at r _ j l) (λ j l. ap (λ (c : List ℕ). get_or c j 0) f ∙ chunk_at r _ j l))
+  damage_found i count s h b e =
+      let f : s ≡ agree_at r u w i = e ∙ front_at i count h b in
+      (omega (arith, f, agree_le r (symbol r u i) (symbol r w i)), ap (λ (n : ℕ). r - n) f)
 
   pub damage_top : (i d : ℕ) → d ≡ damage r u w i → d ≤ r
   unfolding damage

@@ -1,5 +1,5 @@
 -- Logarithms of products, and of the powers of a point, written down while the coefficient 0 is added up.
-use Prim.Native.Nat.{ℕ, zero, suc, ◌+◌, ◌*◌, ◌-◌, ◌/◌, ◌%◌, ◌^◌, ◌<◌, ◌≤◌}
+use Prim.Native.Nat.{ℕ, zero, suc, ◌+◌, ◌*◌, ◌-◌, ◌/◌, ◌%◌, ◌^◌, ◌<◌}
 use mathlib.Core.Path.{◌≡◌, refl, ap, ap₂, sym, ◌∙◌}
 use mathlib.Core.List.{List}
 use native.Nat.{ℕᴺ_discrete}
@@ -11,14 +11,13 @@ use lib.ListN.{length, get_or, set, length-set}
 use lib.Seq.{get_or-set_same, get_or-set_other}
 use lib.Pow.{pow_pos}
 use Rattle.defs.specs.Field.{Width, mul, pow}
-use Rattle.defs.specs.Row.{coefficient}
 use Rattle.defs.specs.Limits.{longest}
 use Rattle.theory.proofs.Field.{mul_comm, pow-lt, pow-add, one_mul_of_lt}
 use Rattle.theory.proofs.Generator.{one_lt, order}
 use Rattle.field.specs.Arithmetic.{Logarithm}
-use Rattle.rows.specs.Tables.{places, ProductLog, Exponent, ExponentsOf}
-use Rattle.rows.specs.Chunk.{Terms}
-use Rattle.rows.proofs.Hasse.{Added, added_first, place_fits, added_more, added_last, next_all}
+use Rattle.rows.specs.Tables.{ProductLog, Exponent, ExponentsOf}
+use Rattle.rows.specs.declared.Terms.{Terms}
+use Rattle.rows.proofs.Hasse.{Added, added_first, added_more, next_all}
 
 -- ---- of a product
 
@@ -51,48 +50,36 @@ exponents_more {m} {P} {i} {e} {table} x l h = record { size = length-set table 
 
 -- the terms of the coefficient 0 below i are added, the logarithms of the powers below i written down, and e is the next
 pub record Walked (m P : ℕ) (f : List ℕ) (i e total : ℕ) (table : List ℕ) : Type 0 where
-  pub few : i ≤ length f
   pub added : Added m P f 0 i total
   pub written : ExponentsOf m P i table
   pub next : Exponent m P i e
 
-module _ (m P step : ℕ) (f symbols powers : List ℕ) (t : Terms m f symbols powers) (g : Logarithm m P step) where
-  pub walked_first : (table : List ℕ) → length table ≡ longest → Walked m P f 0 0 0 table
+module _ (t : Terms) (P : ℕ) where
+  pub walked_first : (table : List ℕ) → length table ≡ longest → Walked t.field.m P t.message.now 0 0 0 table
   unfolding pow
   walked_first table s = record {
-    few = omega arith;
-    added = added_first m P 0 f symbols powers t;
+    added = added_first t P 0;
     written = record { size = s; at = λ i l. absurd (omega arith) };
-    next = record { below = pow_pos m; power = refl };
+    next = record { below = pow_pos t.field.m; power = refl };
   }
 
-  module _ (i e total : ℕ) (table : List ℕ) (a : Walked m P f i e total table) (l : i < length f) where
-    exponent : Exponent m P (i - 0) e
+  module _ (i e total : ℕ) (table : List ℕ) (a : Walked t.field.m P t.message.now i e total table) (l : i < length t.message.now) where
+    exponent : Exponent t.field.m P (i - 0) e
     exponent = rw sub-zero a.next
 
-    pub walk_fits : get_or symbols i 0 + e < places
-    walk_fits = place_fits m P 0 f symbols powers t i e total l a.added exponent
-
-    onward : (e' : ℕ) → ProductLog m e step e' → Exponent m P (i + 1) e'
+    onward : (step e' : ℕ) → Logarithm t.field.m P step → ProductLog t.field.m e step e' → Exponent t.field.m P (i + 1) e'
     unfolding pow
-    onward e' p = record {
+    onward step e' g p = record {
       below = p.below;
       power =
-          p.power ∙ pow-add m 2 e step (one_lt m t.width) ∙ ap₂ (mul m) a.next.power g.power ∙ mul_comm m (pow m P i) P
-          ∙ ap (pow m P) (sym (add-one i));
+          p.power ∙ pow-add t.field.m 2 e step (one_lt t.field.m t.field.known) ∙ ap₂ (mul t.field.m) a.next.power g.power ∙ mul_comm t.field.m (pow t.field.m P i) P
+          ∙ ap (pow t.field.m P) (sym (add-one i));
     }
 
-    pub walked_more : (e' : ℕ) → ProductLog m e step e' → Walked m P f (i + 1) e' (bit_xor total (get_or powers (get_or symbols i 0 + e) 0)) (set table i e)
-    walked_more e' p = record {
-      few = omega arith;
-      added = added_more m P 0 f symbols powers t i e total l a.added exponent (i + 1) (next_all i);
+    pub walked_more : (step e' : ℕ) → Logarithm t.field.m P step → ProductLog t.field.m e step e'
+        → Walked t.field.m P t.message.now (i + 1) e' (bit_xor total (get_or t.powers.now (get_or t.symbols.now i 0 + e) 0)) (set table i e)
+    walked_more step e' g p = record {
+      added = added_more t P 0 i e total l a.added exponent (i + 1) (next_all i);
       written = exponents_more a.written (omega (arith, t.short)) a.next;
-      next = onward e' p;
+      next = onward step e' g p;
     }
-
-  module _ (i e total : ℕ) (table : List ℕ) (a : Walked m P f i e total table) (l : length f ≤ i) where
-    pub walked_sum : total ≡ coefficient m f P 0
-    walked_sum = added_last m P 0 f symbols powers t i total a.added l
-
-    pub walked_table : ExponentsOf m P (length f) table
-    walked_table = record { size = a.written.size; at = λ c b. a.written.at c (omega arith) }

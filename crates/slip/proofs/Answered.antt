@@ -1,49 +1,46 @@
 -- What the reader's answer says of the bytes, of the code's numbers and of the two buffers.
-use Prim.Native.Nat.{ℕ, ◌*◌, ◌≤◌}
-use mathlib.Core.Path.{◌≡◌, refl, ap, sym, ◌∙◌}
-use mathlib.Core.List.{List}
-use native.Mathlib.Omega.{arith}
-use lib.ListN.{length, take, drop, length-append}
-use Rattle.defs.specs.Refusal.{answer, kept}
-use Rattle.defs.specs.Slip.{depth_in, count_in, points_in, row_in}
+use Rattle.std.proofs.Common.{ℕ, ◌*◌, ◌≤◌, ◌≡◌, refl, ap, sym, ◌∙◌, List, arith, length, take, drop, length-append, Result, Err, Ok}
+use Rattle.defs.specs.Refusal.{Verdict, fine, verdict_of, kept}
+use Rattle.defs.specs.Slip.{edition_in, width_in, depth_in, count_in, dimension_in, points_in, row_in}
 use Rattle.defs.specs.Write.{front}
 use Rattle.defs.specs.Read.{read_verdict, reading, Read}
 use Rattle.defs.specs.declared.Refusal.{Refusal}
-use Rattle.defs.specs.declared.Verdict.{Verdict}
-use Rattle.defs.specs.declared.Verdict.TheVariants.{Fine, Refused}
-use Rattle.defs.specs.declared.Answer.TheVariants.{Done, Refused as No}
 use Rattle.defs.specs.declared.SlipRead.{SlipRead}
-use Rattle.theory.proofs.Verdict.{answer_done, answer_refused}
 use Rattle.slip.proofs.Front.{take_front}
 use Rattle.slip.proofs.Taken.{length_points, length_row}
 
--- the reader's answer is that of its checks
-reading_answer : (v : Verdict) (bytes : List ℕ) → (reading v bytes).answer ≡ answer v 0
-unfolding reading answer
-reading_answer Fine bytes = refl
-reading_answer (Refused x) bytes = refl
+-- what the reader tells of a slip that passes its checks
+abbrev pub told : List ℕ → SlipRead
+told s = record { edition = edition_in s; m = width_in s; r = depth_in s; count = count_in s; k = dimension_in s }
+
+-- the reader is refused as its checks are
+reading_verdict : (v : Verdict) (bytes : List ℕ) → verdict_of (reading v bytes) ≡ v
+unfolding reading
+reading_verdict (Ok _) bytes = refl
+reading_verdict (Err x) bytes = refl
 
 length_front : (new old : List ℕ) → length new ≤ length (front new old)
 unfolding front
 length_front new old = omega (arith, length-append new (drop (length new) old))
 
-module _ {bytes points row : List ℕ} {s : SlipRead} {points' row' : List ℕ} (x : Read bytes points row s points' row') where
+module _ {bytes points row : List ℕ} {a : Result SlipRead Refusal} {points' row' : List ℕ} (x : Read bytes points row a points' row') where
   abbrev v : Verdict
   v = read_verdict bytes (length points) (length row)
 
-  pub answered : s.answer ≡ answer v 0
-  answered = ap (λ (s : SlipRead). s.answer) x.answers ∙ reading_answer v bytes
+  pub verdict_is : verdict_of a ≡ v
+  verdict_is = rw x.answers (reading_verdict v bytes)
 
-  pub read_no : (y : Refusal) → s.answer ≡ No y → v ≡ Refused y
-  read_no y e = answer_refused v 0 y (sym answered ∙ e)
+  pub read_no : (y : Refusal) → a ≡ Err y → v ≡ Err y
+  read_no y e = sym verdict_is ∙ rw e
 
-  module _ (d : ℕ) (done : s.answer ≡ Done d) where
-    pub read_fine : v ≡ Fine
-    read_fine = answer_done v 0 d (sym answered ∙ done)
+  module _ (s : SlipRead) (done : a ≡ Ok s) where
+    pub read_fine : v ≡ fine
+    read_fine = sym verdict_is ∙ rw done
 
     -- its numbers are those that stand in the slip
-    pub read_numbers : s ≡ reading Fine bytes
-    read_numbers = x.answers ∙ ap (λ (v : Verdict). reading v bytes) read_fine
+    pub read_numbers : s ≡ told bytes
+    unfolding reading
+    read_numbers = let e : Ok s ≡ reading fine bytes = sym done ∙ x.answers ∙ rw read_fine in cc
 
     -- the buffers begin with its points and its row
     points_front : points' ≡ front (points_in bytes) points

@@ -25,10 +25,6 @@ symbols_append m [] t a b i = b i
 symbols_append m (x ∷ s) t a b zero = a zero
 symbols_append m (x ∷ s) t a b (suc i) = symbols_append m s t (λ j. a (suc j)) b i
 
--- what stands in the second of two lists
-pub get_d_second : (s t : List ℕ) (j : ℕ) → length s ≤ j → get_or (s ++ t) j 0 ≡ get_or t (j - length s) 0
-get_d_second s t j h = ap (λ (i : ℕ). get_or (s ++ t) i 0) (omega arith) ∙ get_or-append-add s t (j - length s) 0
-
 pub bits_are : (w x : ℕ) → Symbols 1 (bits w x)
 unfolding bits
 bits_are zero x i = lit< tt

@@ -12,17 +12,18 @@ use Rattle.defs.specs.Place.{least, tab, Symbols}
 use Rattle.defs.specs.Slip.{all_bits, number_at, width_of, field_code, head_bits, slip_size, slip_bits, slip_of, edition_in, layout_in, width_in, depth_in, count_in, dimension_in, size_in, symbols_in, points_in, row_in, spare_in, used_in, fill_in}
 use Rattle.defs.specs.Read.{read_verdict}
 use Rattle.defs.specs.declared.Layout.{Layout}
-use Rattle.defs.specs.declared.Verdict.TheVariants.{Fine}
 use Rattle.theory.proofs.Place.{length_tab, tab_append, tab_same, tab_get_d}
 use Rattle.theory.proofs.Width.{width_pos}
-use Rattle.slip.specs.declared.Head.{Head}
-use Rattle.slip.specs.Head.{header_bits, Fitting, Heads}
+use Rattle.slip.specs.declared.read.Reader.{Reader}
+use Rattle.slip.specs.Edition.{layout}
+use Rattle.slip.specs.Head.{header_bits, Fitting}
 use Rattle.slip.proofs.Bits.{length_all_bits, all_bits_are, number_nil, number_one, number_same, fields_same, bits_told, symbols_told}
 use Rattle.slip.proofs.Layouts.{edition_own}
 use Rattle.slip.proofs.HeaderBits.{fitting, header_edition, header_field, header_depth, header_count, header_dimension, header_spare}
 use Rattle.slip.proofs.Packed.{byte_is, slip_bits_are, in_header, behind_header}
-use Rattle.slip.proofs.Reader.{laid_in, Sound, sound, read_checked, read_clean}
+use Rattle.slip.proofs.Reader.{laid_in, layout_is, Sound, sound, read_checked, read_clean}
 use Rattle.slip.proofs.Taken.{length_points}
+use Rattle.defs.specs.Refusal.{fine}
 
 -- a field is told by its width
 field_told : (f : ℕ) → Width (width_of f) → field_code (width_of f) ≡ f
@@ -32,23 +33,24 @@ field_told (suc zero) w = refl
 field_told (suc (suc zero)) w = refl
 field_told (suc (suc (suc f))) w = absurd (omega (arith, width_pos _ w))
 
--- the fill of a sound slip is below a byte
-pub fill_few : (bytes : List ℕ) → Sound bytes → used_in bytes ≤ 8 * length bytes × (8 * length bytes < used_in bytes + 8)
+-- the fill of a slip is below a byte
+pub fill_few : (bytes : List ℕ) → used_in bytes ≤ 8 * size_in bytes × (8 * size_in bytes < used_in bytes + 8)
 unfolding used_in size_in slip_size
-fill_few bytes s = omega (arith, s.size, (laid_in bytes).whole, mul_comm (width_in bytes) (count_in bytes + depth_in bytes * count_in bytes))
+fill_few bytes = omega (arith, (laid_in bytes).whole, mul_comm (width_in bytes) (count_in bytes + depth_in bytes * count_in bytes))
 
--- where the header was read, and where the zero bits and the fill were
-module _ (bytes : List ℕ) (h : Head) (heads : Heads bytes h) (from : ℕ) (e : from ≡ head_bits h.layout) where
-  pub used_is : from + h.m * (h.count + h.r * h.count) ≡ used_in bytes
+-- where the zero bits and the fill of bytes that were opened were read
+module _ (s : Reader) (start : ℕ) (e : start ≡ head_bits (layout s.edition)) where
+  pub used_is : start + s.field.m * (s.count + s.r * s.count) ≡ used_in s.bytes.now
   unfolding used_in
-  used_is = rw (e, heads.layout_is, heads.m_is, heads.r_is, heads.count_is)
+  used_is = rw (e, layout_is s.heads, s.heads.m_is, s.heads.r_is, s.heads.count_is)
 
-  pub loose_is : Sound bytes → (spare fill used : ℕ) → used ≡ used_in bytes → spare ≡ number_at h.layout.zerobits (from - h.layout.zerobits) (all_bits 8 bytes)
-      → fill ≡ number_at (8 * length bytes - used) used (all_bits 8 bytes) → spare + fill ≡ spare_in bytes + fill_in bytes
+  pub loose_is : (width spare fill used : ℕ) → width ≡ (layout s.edition).zerobits → used ≡ used_in s.bytes.now → spare ≡ number_at width (start - width) (all_bits 8 s.bytes.now)
+      → fill ≡ number_at (8 * s.size - used) used (all_bits 8 s.bytes.now) → spare + fill ≡ spare_in s.bytes.now + fill_in s.bytes.now
   unfolding spare_in fill_in head_bits
-  loose_is s spare fill used u p q =
-      let place : from - h.layout.zerobits ≡ 9 + h.layout.countbits + h.layout.kbits = omega arith in
-      rw (p, q, place, u, heads.layout_is, s.size)
+  loose_is width spare fill used z u p q =
+      let L = layout s.edition in
+      let place : start - L.zerobits ≡ 9 + L.countbits + L.kbits = omega arith in
+      rw (p, q, z, place, u, layout_is s.heads, s.sized)
 
 -- what was read of bytes, and the bits that hold nothing
 module _ (bytes : List ℕ) (are : Symbols 8 bytes) (s : Sound bytes) where
@@ -81,7 +83,7 @@ module _ (bytes : List ℕ) (are : Symbols 8 bytes) (s : Sound bytes) where
 
   -- the header that is written has the fields of the one that was read
   fits : Fitting L (depth_in bytes) (dimension_in bytes) (count_in bytes)
-  fits = fitting L (laid_in bytes) m _ _ _ s.fine
+  fits = fitting L (laid_in bytes) m _ _ _ s.is_fine
 
   header_told : spare_in bytes ≡ 0 → number_at start 0 H ≡ number_at start 0 S
   unfolding head_bits edition_in layout_in width_in depth_in count_in dimension_in spare_in
@@ -150,7 +152,7 @@ module _ (bytes : List ℕ) (are : Symbols 8 bytes) (s : Sound bytes) where
         ∙ tab_get_d bytes)
 
 -- THE BYTES OF A SLIP THAT IS READ ARE WHAT THE WRITER MAKES OF WHAT WAS READ
-pub slip_read_whole : (bytes : List ℕ) → Symbols 8 bytes → (count n : ℕ) → read_verdict bytes count n ≡ Fine
+pub slip_read_whole : (bytes : List ℕ) → Symbols 8 bytes → (count n : ℕ) → read_verdict bytes count n ≡ fine
     → slip_of (layout_in bytes) (width_in bytes) (depth_in bytes) (dimension_in bytes) (points_in bytes) (row_in bytes) ≡ bytes
 unfolding fill_in used_in
 slip_read_whole bytes are count n e =

@@ -1,8 +1,6 @@
 -- What the loops that write a slip, and symbols that are read, leave at the front of a buffer.
-use Prim.Native.Nat.{ℕ, ◌+◌, ◌*◌}
-use mathlib.Core.Path.{◌≡◌, ◌∙◌}
-use mathlib.Core.List.{List}
-use lib.ListN.{length, take, drop}
+use Rattle.std.proofs.Common.{ℕ, ◌+◌, ◌*◌, ◌≤◌, ◌≡◌, ◌∙◌, List, ◌++◌, length, take, drop, append-nil, length-take-le, arith}
+use Rattle.std.proofs.lemmas.List.{drop_all}
 use lib.Seq.{take_at}
 use Rattle.defs.specs.Place.{tab}
 use Rattle.defs.specs.Slip.{all_bits, number_at, head_bits, slip_size, slip_bits, slip_of, layout_in, width_in, symbols_in}
@@ -20,16 +18,27 @@ pub length_symbols : (bytes : List ℕ) (past n : ℕ) → length (symbols_in by
 unfolding symbols_in
 length_symbols bytes past n = length_tab _ n
 
-front_filled : (d : List ℕ) (F : ℕ → ℕ) (n : ℕ) → filled d 0 F n ≡ front (tab F n) d
-unfolding front
-front_filled d F n = filled_front d F n ∙ rw length_tab
+-- a buffer filled up to its end
+pub filled_all : (d : List ℕ) (F : ℕ → ℕ) (n : ℕ) → n ≡ length d → filled d 0 F n ≡ tab F n
+filled_all d F n e = filled_front d F n ∙ rw (drop_all n d (omega arith), append-nil)
 
-pub slip_filled : (L : Layout) (m r k : ℕ) (points w d : List ℕ) (size : ℕ) → size ≡ slip_size L m (length points + length w)
-    → filled d 0 (λ i. number_at 8 (8 * i) (slip_bits L m r k points w)) size ≡ front (slip_of L m r k points w) d
-unfolding slip_of
-slip_filled L m r k points w d size e = rw e (front_filled d _ _)
+-- the first places of one filled with a slip, and its rest
+pub slip_filled : (L : Layout) (m r k : ℕ) (points w d new : List ℕ) (size i : ℕ) → size ≡ slip_size L m (length points + length w) → size ≤ length d
+    → i ≡ length (take size d) → new ≡ filled (take size d) 0 (λ i. number_at 8 (8 * i) (slip_bits L m r k points w)) i
+    → new ++ drop size d ≡ front (slip_of L m r k points w) d
+unfolding slip_of front
+slip_filled L m r k points w d new size i e l q f =
+    let F : ℕ → ℕ = λ i. number_at 8 (8 * i) (slip_bits L m r k points w) in
+    let end : i ≡ size = q ∙ length-take-le size d l in
+    rw (f, filled_all (take size d) F i q, end, length_tab F, ← e)
 
-pub symbols_filled : (bytes : List ℕ) (start m past n : ℕ) (d : List ℕ) → start ≡ head_bits (layout_in bytes) → m ≡ width_in bytes
-    → filled d 0 (λ j. number_at m (start + m * (past + j)) (all_bits 8 bytes)) n ≡ front (symbols_in bytes past n) d
+-- one filled with symbols
+pub symbols_filled : (bytes : List ℕ) (start m past i : ℕ) (d : List ℕ) → start ≡ head_bits (layout_in bytes) → m ≡ width_in bytes → i ≡ length d
+    → filled d 0 (λ j. number_at m (start + m * (past + j)) (all_bits 8 bytes)) i ≡ symbols_in bytes past (length d)
 unfolding symbols_in
-symbols_filled bytes start m past n d s e = rw (s, e) (front_filled d _ _)
+symbols_filled bytes start m past i d s w e = filled_all d _ i e ∙ rw (s, w, e)
+
+-- symbols in the first places of one, and its rest
+pub symbols_front : (bytes : List ℕ) (past n : ℕ) (d new : List ℕ) → n ≤ length d → new ≡ symbols_in bytes past (length (take n d)) → new ++ drop n d ≡ front (symbols_in bytes past n) d
+unfolding front
+symbols_front bytes past n d new l e = rw (length_symbols bytes past n, e, length-take-le n d l)

@@ -11,16 +11,16 @@ use Rattle.defs.specs.Place.{least, Symbols}
 use Rattle.defs.specs.Limits.{numbers_verdict}
 use Rattle.defs.specs.Slip.{bits, all_bits, number_at, width_of, field_code, head_bits, slip_bits}
 use Rattle.defs.specs.declared.Layout.{Layout}
-use Rattle.defs.specs.declared.Verdict.TheVariants.{Fine}
 use Rattle.theory.proofs.Place.{least_le}
 use Rattle.theory.proofs.Limits.{numbers_known, numbers_top}
 use Rattle.theory.proofs.Width.{by_width}
 use Rattle.slip.specs.Laid.{Laid}
 use Rattle.slip.specs.Head.{header_bits, Fitting}
 use Rattle.slip.proofs.Bits.{length_bits, symbols_append, bits_are, number_fields, number_field, number_past, number_bits, number_next}
+use Rattle.defs.specs.Refusal.{fine}
 
 -- numbers that the layout's longest row allows fit its fields
-pub fitting : (L : Layout) → Laid L → (m r k count : ℕ) → numbers_verdict L.top m r k count ≡ Fine → Fitting L r k count
+pub fitting : (L : Layout) → Laid L → (m r k count : ℕ) → numbers_verdict L.top m r k count ≡ fine → Fitting L r k count
 fitting L laid m r k count e =
     let n = numbers_known L.top m r k count laid.top_low e in
     let top = numbers_top L.top m r k count laid.top_low e in

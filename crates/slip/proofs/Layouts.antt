@@ -1,7 +1,7 @@
 -- What is known of the layout of every edition, and the sizes that follow from it.
 use Prim.Native.Nat.{ℕ, ◌*◌, ◌/◌, ◌^◌, ◌<◌, ◌≤◌}
 use mathlib.Core.Bool.{Bool, true, false, ◌||◌}
-use mathlib.Core.Path.{◌≡◌, refl, subst⁻¹}
+use mathlib.Core.Path.{◌≡◌, refl}
 use native.Mathlib.Nat.{mul-le-mul}
 use native.Mathlib.Omega.{arith}
 use lib.Dec.{eqb}
@@ -13,7 +13,10 @@ use Rattle.defs.specs.declared.Layout.{Layout}
 use Rattle.theory.proofs.Layouts.{by_layout}
 use Rattle.theory.proofs.Verdict.{apart}
 use Rattle.theory.proofs.Width.{width_top}
+use Rattle.slip.specs.declared.layout.Edition.{Edition}
+use Rattle.slip.specs.declared.layout.Edition.TheVariants.{Old, New}
 use Rattle.slip.specs.Laid.{Laid}
+use Rattle.slip.specs.Edition.{number}
 
 pub laid : (edition : ℕ) → Laid (layout_of edition)
 unfolding head_bits
@@ -30,8 +33,10 @@ laid e = record {
   k_room = by_layout (λ L. L.top ≤ 2 ^ L.kbits) (omega arith) (omega arith) e;
 }
 
-pub laid_by : (edition : ℕ) (L : Layout) → L ≡ layout_of edition → Laid L
-laid_by edition L e = subst⁻¹ Laid e (laid edition)
+-- the editions are known
+pub known_edition : (E : Edition) → is_edition (number E) ≡ true
+known_edition Old = refl
+known_edition New = refl
 
 -- a known edition is that of its layout
 pub edition_own : (edition : ℕ) → is_edition edition ≡ true → (layout_of edition).edition ≡ edition

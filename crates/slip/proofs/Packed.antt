@@ -2,7 +2,7 @@
 use Prim.Native.Nat.{ℕ, ◌+◌, ◌*◌, ◌-◌, ◌/◌, ◌%◌, ◌^◌, ◌<◌, ◌≤◌}
 use mathlib.Core.Path.{◌≡◌, refl, ap, sym, ◌∙◌}
 use mathlib.Core.List.{List, ◌++◌}
-use native.Mathlib.Nat.{zero-add, sub_self, sub-zero, mul-zero, mul-one, mul-add, mul_assoc, mul-le-mul_left, mod-eq_of_lt, lt_of_lt_of_le}
+use native.Mathlib.Nat.{zero-add, mul-zero, mul-one, mul-add, mul_assoc, mul-le-mul_left, mod-eq_of_lt, lt_of_lt_of_le}
 use native.Mathlib.Omega.{arith}
 use lib.Dec.{lit<}
 use lib.ListN.{length, get_or}
@@ -18,34 +18,30 @@ use Rattle.slip.specs.Head.{header_bits}
 use Rattle.slip.proofs.Bits.{length_all_bits, symbols_append, all_bits_are, number_same, number_below, number_split, number_inside, number_front, number_behind, number_beyond, number_symbol, symbols_told}
 use Rattle.slip.proofs.HeaderBits.{header_length, header_are, header_first}
 
--- ---- a byte packed, a symbol a turn; left of its symbols are still to come
+-- ---- a byte packed, a symbol a turn; j of its symbols are in it
 
 whole : (m : ℕ) → Width m → m * (8 / m) ≡ 8
 whole = by_width (λ m. m * (8 / m) ≡ 8) refl refl refl
 
 module _ (m i : ℕ) (s : List ℕ) (w : Width m) where
-  pub pack_first : 0 ≡ number_at (m * (8 / m - 8 / m)) (8 * i) (all_bits m s)
+  pub pack_first : 0 ≡ number_at (m * 0) (8 * i) (all_bits m s)
   unfolding number_at
-  pack_first = rw (sub_self, mul-zero)
+  pack_first = rw mul-zero
 
-  pub pack_turn : Symbols m s → (left byte : ℕ) → 0 < left → left ≤ 8 / m → byte ≡ number_at (m * (8 / m - left)) (8 * i) (all_bits m s)
-      → byte * 2 ^ m + get_or s (8 / m * i + (8 / m - left)) 0 ≡ number_at (m * (8 / m - (left - 1))) (8 * i) (all_bits m s)
-  pack_turn h left byte a b e =
-      let t = 8 / m - left in
-      let next : 8 / m - (left - 1) ≡ t + 1 = omega arith in
-      let here : 8 * i + m * t ≡ m * (8 / m * i + t) = rw (mul-add, ← mul_assoc, whole m w) in
-      rw (next, mul-add m t 1, mul-one, number_split (m * t) m (8 * i) (all_bits m s), here, number_symbol m s (8 / m * i + t), mod-eq_of_lt (h (8 / m * i + t)), e)
+  pub pack_turn : Symbols m s → (j byte : ℕ) → byte ≡ number_at (m * j) (8 * i) (all_bits m s)
+      → byte * 2 ^ m + get_or s (8 / m * i + j) 0 ≡ number_at (m * (j + 1)) (8 * i) (all_bits m s)
+  pack_turn h j byte e =
+      let here : 8 * i + m * j ≡ m * (8 / m * i + j) = rw (mul-add, ← mul_assoc, whole m w) in
+      rw (mul-add m j 1, mul-one, number_split (m * j) m (8 * i) (all_bits m s), here, number_symbol m s (8 / m * i + j), mod-eq_of_lt (h (8 / m * i + j)), e)
 
-  pub pack_last : (left byte : ℕ) → left ≤ 0 → byte ≡ number_at (m * (8 / m - left)) (8 * i) (all_bits m s) → byte ≡ number_at 8 (8 * i) (all_bits m s)
-  pack_last left byte a e =
-      let z : left ≡ 0 = omega arith in
-      e ∙ rw (z, sub-zero, whole m w)
+  pub pack_last : (j byte : ℕ) → j ≡ 8 / m → byte ≡ number_at (m * j) (8 * i) (all_bits m s) → byte ≡ number_at 8 (8 * i) (all_bits m s)
+  pack_last j byte l e = e ∙ rw (l, whole m w)
 
-  pub pack_small : (left byte : ℕ) → byte ≡ number_at (m * (8 / m - left)) (8 * i) (all_bits m s) → byte < 256
-  pack_small left byte e =
+  pub pack_small : (j byte : ℕ) → j ≤ 8 / m → byte ≡ number_at (m * j) (8 * i) (all_bits m s) → byte < 256
+  pack_small j byte l e =
       rw e
-      (lt_of_lt_of_le (number_below (m * (8 / m - left)) (8 * i) (all_bits m s) (all_bits_are m s))
-      (pow_mono {j = 8} (omega (arith, whole m w, mul-le-mul_left {m = 8 / m - left} {n = 8 / m} m (omega arith)))))
+      (lt_of_lt_of_le (number_below (m * j) (8 * i) (all_bits m s) (all_bits_are m s))
+      (pow_mono {j = 8} (omega (arith, whole m w, mul-le-mul_left {m = j} {n = 8 / m} m l))))
 
 -- ---- a number in bytes
 

@@ -34,4 +34,4 @@ first_every known bytes short edition field points dimension =
     (every_plain _ _ _ short
     (every_then _ _
     (numbers_every _ _ _ _ _ field (λ t. absurd (never_deep _ d.0 d.1 t)) points dimension)
-    (λ fine. every_plain _ _ _ short every_fine))))
+    (λ is_fine. every_plain _ _ _ short every_fine))))

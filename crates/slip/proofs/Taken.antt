@@ -11,7 +11,6 @@ use Rattle.defs.specs.Limits.{Within, Inside}
 use Rattle.defs.specs.Decode.{decode_verdict}
 use Rattle.defs.specs.Slip.{all_bits, number_at, head_bits, layout_in, width_in, depth_in, count_in, dimension_in, symbols_in, points_in, row_in}
 use Rattle.defs.specs.Read.{read_verdict}
-use Rattle.defs.specs.declared.Verdict.TheVariants.{Fine}
 use Rattle.theory.proofs.Place.{length_tab, get_d_tab}
 use Rattle.theory.specs.Limits.{Limits}
 use Rattle.theory.proofs.Limits.{numbers_top, none_twice, limits_within, limits_inside}
@@ -19,6 +18,7 @@ use Rattle.theory.proofs.Checks.{decode_fine}
 use Rattle.slip.proofs.Bits.{all_bits_are, number_below}
 use Rattle.slip.proofs.Front.{length_symbols}
 use Rattle.slip.proofs.Reader.{laid_in, Sound, sound, read_checked, read_once}
+use Rattle.defs.specs.Refusal.{fine}
 
 module _ (bytes : List ℕ) where
   -- symbols of m bits are below 2 ^ m
@@ -50,25 +50,25 @@ module _ (bytes : List ℕ) where
   length_row = length_symbols bytes (count_in bytes) (depth_in bytes * count_in bytes)
 
   -- whatever room there was for its points and its row
-  module _ (count n : ℕ) (fine : read_verdict bytes count n ≡ Fine) where
+  module _ (count n : ℕ) (is_fine : read_verdict bytes count n ≡ fine) where
     pub read_sound : Sound bytes
-    read_sound = sound bytes (read_checked bytes count n fine)
+    read_sound = sound bytes (read_checked bytes count n is_fine)
 
     pub limits : Limits (width_in bytes) (depth_in bytes) (dimension_in bytes) (points_in bytes)
     limits = record {
       numbers = rw length_points read_sound.numbers;
       symbols = points_low;
-      distinct = none_twice (points_in bytes) (rw length_points (read_once bytes count n fine));
+      distinct = none_twice (points_in bytes) (rw length_points (read_once bytes count n is_fine));
     }
 
     -- also with the longest row of its own edition
     pub within : Within (layout_in bytes).top (width_in bytes) (depth_in bytes) (dimension_in bytes) (points_in bytes)
     within =
         limits_within _ _ _ _ (points_in bytes) limits
-        (rw length_points (numbers_top (layout_in bytes).top _ _ _ _ (laid_in bytes).top_low read_sound.fine))
+        (rw length_points (numbers_top (layout_in bytes).top _ _ _ _ (laid_in bytes).top_low read_sound.is_fine))
 
     pub inside : Inside (width_in bytes) (depth_in bytes) (dimension_in bytes) (points_in bytes)
     inside = limits_inside _ _ _ _ limits
 
-    pub decodable : decode_verdict (width_in bytes) (depth_in bytes) (dimension_in bytes) (points_in bytes) (row_in bytes) (dimension_in bytes) (count_in bytes) ≡ Fine
+    pub decodable : decode_verdict (width_in bytes) (depth_in bytes) (dimension_in bytes) (points_in bytes) (row_in bytes) (dimension_in bytes) (count_in bytes) ≡ fine
     decodable = decode_fine _ _ _ (points_in bytes) (row_in bytes) _ _ inside (length_row ∙ rw length_points) refl (sym length_points) row_low

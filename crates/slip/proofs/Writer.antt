@@ -9,7 +9,7 @@ use lib.ListN.{length}
 use borrow.Author.Tests.{lt-ltb, le-ltb, eq-eqb, ne_eqb, ltb-false, eqb-true, not-false}
 use Rattle.defs.specs.Field.{Width}
 use Rattle.defs.specs.Place.{Symbols}
-use Rattle.defs.specs.Refusal.{refuse, and_then, answer, kept}
+use Rattle.defs.specs.Refusal.{refuse, and_then, answer, kept, Verdict, fine}
 use Rattle.defs.specs.Limits.{longest, numbers_verdict, code_verdict, Within, Inside}
 use Rattle.defs.specs.Encode.{symbols_verdict}
 use Rattle.defs.specs.Slip.{is_edition, layout_of, slip_size, longest_slip, slip_of}
@@ -17,20 +17,20 @@ use Rattle.defs.specs.Write.{front, write_verdict, Written}
 use Rattle.defs.specs.declared.Layout.{Layout}
 use Rattle.defs.specs.declared.Refusal.{Refusal}
 use Rattle.defs.specs.declared.Refusal.TheVariants.{Length, Edition}
-use Rattle.defs.specs.declared.Verdict.{Verdict}
-use Rattle.defs.specs.declared.Verdict.TheVariants.{Fine, Refused}
-use Rattle.defs.specs.declared.Answer.TheVariants.{Done, Refused as No}
 use Rattle.theory.specs.Limits.{Limits}
 use Rattle.theory.proofs.Place.{none_high}
 use Rattle.theory.proofs.Layouts.{layout_top}
 use Rattle.theory.proofs.Limits.{within_known, code_within, count_small}
 use Rattle.theory.proofs.Checks.{symbols_fine}
 use Rattle.theory.proofs.Verdict.{refuse_fine, then_fine}
+use Rattle.slip.specs.declared.write.Slip.{Slip}
 use Rattle.slip.specs.Laid.{Laid}
+use Rattle.slip.specs.Edition.{number, layout}
 use Rattle.slip.specs.Head.{Fitting}
 use Rattle.slip.proofs.Bits.{symbols_append}
 use Rattle.slip.proofs.Layouts.{laid, size_top}
 use Rattle.slip.proofs.HeaderBits.{fitting}
+use Rattle.std.proofs.Common.{Err, Ok}
 
 -- what a code inside the layout's limits says to the functions that write it
 module _ (L : Layout) (laid : Laid L) (m r k : ℕ) (points : List ℕ) (e : Within L.top m r k points) where
@@ -40,7 +40,7 @@ module _ (L : Layout) (laid : Laid L) (m r k : ℕ) (points : List ℕ) (e : Wit
   pub within_width : Width m
   within_width = within_limits.numbers.width
 
-  pub within_numbers : numbers_verdict L.top m r k (length points) ≡ Fine
+  pub within_numbers : numbers_verdict L.top m r k (length points) ≡ fine
   unfolding code_verdict
   within_numbers = (then_fine (numbers_verdict L.top m r k (length points)) _ e).0
 
@@ -56,6 +56,17 @@ module _ (L : Layout) (laid : Laid L) (m r k : ℕ) (points : List ℕ) (e : Wit
       let n = within_limits.numbers in
       omega (arith, count_small n, n.row_top)
 
+-- what is written has symbols alone, and few enough for the longest slip
+module _ (s : Slip) where
+  pub symbols : Symbols s.field.m (s.points.now ++ s.row.now)
+  symbols = within_symbols _ (laid (number s.edition)) _ _ _ _ s.within _ s.symbols
+
+  pub held : length s.points.now + length s.row.now ≤ 2 * longest
+  held = few _ (laid (number s.edition)) _ _ _ _ s.within _ s.whole
+
+  pub top : slip_size (layout s.edition) s.field.m (length s.points.now + length s.row.now) ≤ longest_slip
+  top = size_top _ (laid (number s.edition)) _ _ s.field.known held
+
 -- the ways out of the checks
 module _ (edition m r k : ℕ) (points w : List ℕ) (size : ℕ) where
   abbrev L : Layout
@@ -64,7 +75,7 @@ module _ (edition m r k : ℕ) (points w : List ℕ) (size : ℕ) where
   abbrev judged : Verdict
   judged = write_verdict edition m r k points w size
 
-  pub refused_edition : is_edition edition ≡ false → Refused Edition ≡ judged
+  pub refused_edition : is_edition edition ≡ false → Err Edition ≡ judged
   unfolding write_verdict refuse
   refused_edition n = rw n
 
@@ -75,12 +86,12 @@ module _ (edition m r k : ℕ) (points w : List ℕ) (size : ℕ) where
     unfolding write_verdict refuse
     by_code = rw (known, code_within L.top m r k points (layout_top edition))
 
-    pub refused_numbers : (x : Refusal) → numbers_verdict L.top m r k (length points) ≡ Refused x → Refused x ≡ judged
+    pub refused_numbers : (x : Refusal) → numbers_verdict L.top m r k (length points) ≡ Err x → Err x ≡ judged
     unfolding and_then
     refused_numbers x e = sym (by_code ∙ rw e)
 
-    module _ (f : numbers_verdict L.top m r k (length points) ≡ Fine) where
-      pub refused_code : (x : Refusal) → code_verdict longest m r k points ≡ Refused x → Refused x ≡ judged
+    module _ (f : numbers_verdict L.top m r k (length points) ≡ fine) where
+      pub refused_code : (x : Refusal) → code_verdict longest m r k points ≡ Err x → Err x ≡ judged
       unfolding and_then
       refused_code x e = sym (by_code ∙ rw (f, e))
 
@@ -89,12 +100,12 @@ module _ (edition m r k : ℕ) (points w : List ℕ) (size : ℕ) where
       code_fine e = code_within L.top m r k points (layout_top edition) ∙ rw (f, e)
 
     module _ (e : Within L.top m r k points) where
-      pub refused_row : (length w ≡ r * length points → ⊥) → Refused Length ≡ judged
+      pub refused_row : (length w ≡ r * length points → ⊥) → Err Length ≡ judged
       unfolding write_verdict and_then refuse
       refused_row n = rw (known, e, ne_eqb (length w) (r * length points) n)
 
       module _ (l : length w ≡ r * length points) where
-        pub refused_size : size < slip_size L m (length points + length w) → Refused Length ≡ judged
+        pub refused_size : size < slip_size L m (length points + length w) → Err Length ≡ judged
         unfolding write_verdict and_then refuse
         refused_size s = rw (known, e, eq-eqb (length w) (r * length points) l, lt-ltb size (slip_size L m (length points + length w)) s)
 
@@ -111,7 +122,7 @@ pub record Writable (edition m r k : ℕ) (points w : List ℕ) (size : ℕ) : T
   pub symbols : Symbols m w
 
 module _ (edition m r k : ℕ) (points w : List ℕ) (size : ℕ) where
-  pub writable : write_verdict edition m r k points w size ≡ Fine → Writable edition m r k points w size
+  pub writable : write_verdict edition m r k points w size ≡ fine → Writable edition m r k points w size
   unfolding write_verdict symbols_verdict
   writable e =
       let e0 = refuse_fine _ _ _ e in
@@ -127,9 +138,9 @@ module _ (edition m r k : ℕ) (points w : List ℕ) (size : ℕ) where
         symbols = none_high m w (ltb-false _ _ e4.0);
       }
 
-  pub writable_fine : Writable edition m r k points w size → write_verdict edition m r k points w size ≡ Fine
+  pub writable_fine : Writable edition m r k points w size → write_verdict edition m r k points w size ≡ fine
   writable_fine x =
-      sym (by_symbols edition m r k points w size x.known x.within x.row x.room Fine (sym (symbols_fine m w x.symbols)))
+      sym (by_symbols edition m r k points w size x.known x.within x.row x.room fine (sym (symbols_fine m w x.symbols)))
 
   -- its slip is no longer than the longest
   pub written_top : Writable edition m r k points w size → slip_size (layout_of edition) m (length points + length w) ≤ longest_slip
@@ -139,11 +150,11 @@ module _ (edition m r k : ℕ) (points w : List ℕ) (size : ℕ) where
 
 -- the ways out of the call
 module _ (edition m r k : ℕ) (points w bytes : List ℕ) where
-  pub written_refused : (x : Refusal) → write_verdict edition m r k points w (length bytes) ≡ Refused x → Written edition m r k points w bytes (No x) bytes
+  pub written_refused : (x : Refusal) → Err x ≡ write_verdict edition m r k points w (length bytes) → Written edition m r k points w bytes (Err x) bytes
   unfolding answer kept
-  written_refused x e = record { answers = rw e; leaves = rw e }
+  written_refused x e = record { answers = rw (← e); leaves = rw (← e) }
 
-  pub written_done : write_verdict edition m r k points w (length bytes) ≡ Fine → (size : ℕ) → size ≡ slip_size (layout_of edition) m (length points + length w)
-      → (bytes' : List ℕ) → bytes' ≡ front (slip_of (layout_of edition) m r k points w) bytes → Written edition m r k points w bytes (Done size) bytes'
+  pub written_done : write_verdict edition m r k points w (length bytes) ≡ fine → (size : ℕ) → size ≡ slip_size (layout_of edition) m (length points + length w)
+      → (bytes' : List ℕ) → bytes' ≡ front (slip_of (layout_of edition) m r k points w) bytes → Written edition m r k points w bytes (Ok size) bytes'
   unfolding answer kept
   written_done e size s bytes' b = record { answers = rw (e, s); leaves = rw e b }

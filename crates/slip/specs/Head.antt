@@ -1,10 +1,9 @@
--- The header: its bits, the numbers that fit its fields, those that it holds, and the symbols behind it.
-use Rattle.std.specs.Prelude.{ℕ, ◌+◌, ◌*◌, ◌-◌, ◌^◌, ◌<◌, ◌≤◌, ◌≡◌, List, ◌++◌}
-use Rattle.defs.specs.Field.{Width}
-use Rattle.defs.specs.Limits.{longest}
-use Rattle.defs.specs.Slip.{bits, field_code, edition_in, layout_in, width_in, depth_in, count_in, dimension_in}
+-- The header: its bits, the numbers that fit its fields, and those that it holds.
+use Rattle.std.specs.Prelude.{ℕ, ◌-◌, ◌^◌, ◌<◌, ◌≤◌, ◌≡◌, List, ◌++◌}
+use Rattle.defs.specs.Slip.{bits, field_code, edition_in, width_in, depth_in, count_in, dimension_in}
 use Rattle.defs.specs.declared.Layout.{Layout}
-use Rattle.slip.specs.declared.Head.{Head}
+use Rattle.slip.specs.declared.layout.Edition.{Edition}
+use Rattle.slip.specs.Edition.{number}
 
 -- what stands before the points
 unfoldable pub header_bits : Layout → ℕ → ℕ → ℕ → ℕ → List ℕ
@@ -20,17 +19,10 @@ pub record Fitting (L : Layout) (r k count : ℕ) : Type 0 where
   pub k_pos : 0 < k
   pub k_top : k ≤ 2 ^ L.kbits
 
--- h holds what stands in the header of the bytes
-pub record Heads (bytes : List ℕ) (h : Head) : Type 0 where
-  pub edition_is : h.edition ≡ edition_in bytes
-  pub layout_is : h.layout ≡ layout_in bytes
-  pub m_is : h.m ≡ width_in bytes
-  pub r_is : h.r ≡ depth_in bytes
-  pub count_is : h.count ≡ count_in bytes
-  pub k_is : h.k ≡ dimension_in bytes
-
--- behind the header stand n symbols past the first ones, and few are asked for
-pub record Holds (bytes : List ℕ) (h : Head) (past n : ℕ) : Type 0 where
-  pub heads : Heads bytes h
-  pub width : Width h.m
-  pub few : past + n ≤ 2 * longest
+-- an edition and numbers that stand in the header of the bytes
+pub record Heads (bytes : List ℕ) (E : Edition) (m r count k : ℕ) : Type 0 where
+  pub edition_is : number E ≡ edition_in bytes
+  pub m_is : m ≡ width_in bytes
+  pub r_is : r ≡ depth_in bytes
+  pub count_is : count ≡ count_in bytes
+  pub k_is : k ≡ dimension_in bytes

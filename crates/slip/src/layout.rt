@@ -1,79 +1,101 @@
-// How the editions lay out a slip: the bits of its fields, and its size.
-ghost use Rattle.std.specs.Prelude.{◌≡◌, ◌*◌, ◌<◌, ◌≤◌};
+// The two editions of slips, and how each lays one out: the bits of its fields, and its size.
+ghost use Rattle.std.specs.Prelude.{◌≡◌, false, ◌*◌, ◌<◌, ◌≤◌, MatchOption};
 ghost use Rattle.defs.specs.Limits.{longest};
-ghost use Rattle.defs.specs.Slip.{is_edition, layout_of, head_bits, slip_size, width_of, field_code};
+ghost use Rattle.defs.specs.Slip.{is_edition, head_bits, slip_size, width_of, field_code};
 ghost use Rattle.slip.specs.Laid.{Laid};
+ghost use Rattle.slip.specs.Edition.{number, layout};
 
 use defs::{LONGEST, Layout};
+use field::Field;
 
-// Whether slips of this edition are known.
-pub fn is_edition(edition: usize) -> bool
-    ensures { result ≡ is_edition edition }
-{
-    if edition == 1 {
-        return true;
+// The editions that are known.
+#[derive(Clone, Copy)]
+pub enum Edition {
+    Old,
+    New,
+}
+
+impl Edition {
+    // The edition of this number, where slips of it are known.
+    pub(crate) fn of(edition: usize) -> Option<Edition>
+        ensures { MatchOption result (is_edition edition ≡ false) (λ E. number E ≡ edition) }
+    {
+        match edition {
+            1 => Some(Edition::Old),
+            2 => Some(Edition::New),
+            _ => None,
+        }
     }
-    edition == 2
-}
 
-// The layout of an edition.
-pub fn layout_of(edition: usize) -> Layout
-    ensures { result ≡ layout_of edition }
-{
-    if edition == 2 {
-        return Layout {
-            edition: 2,
-            countbits: 8,
-            kbits: 8,
-            zerobits: 7,
-            top: LONGEST,
-        };
+    // Its number.
+    pub fn number(self) -> usize
+        ensures { result ≡ number self }
+    {
+        match self {
+            Edition::Old => 1,
+            Edition::New => 2,
+        }
     }
-    Layout {
-        edition: 1,
-        countbits: 7,
-        kbits: 7,
-        zerobits: 1,
-        top: 128,
+
+    // How its slips are laid out.
+    pub fn layout(self) -> Layout
+        ensures value { result ≡ layout self }
+        ensures laid { Laid result }
+    {
+        match self {
+            Edition::Old => Layout {
+                edition: 1,
+                countbits: 7,
+                kbits: 7,
+                zerobits: 1,
+                top: 128,
+            },
+            Edition::New => Layout {
+                edition: 2,
+                countbits: 8,
+                kbits: 8,
+                zerobits: 7,
+                top: LONGEST,
+            },
+        }
+    }
+
+    // The bits before the points.
+    pub(crate) fn head_bits(self) -> usize
+        ensures { result ≡ head_bits (layout self) }
+    {
+        let layout = self.layout();
+        9 + layout.countbits + layout.kbits + layout.zerobits
+    }
+
+    // The bytes of a slip with so many points and symbols in all.
+    pub(crate) fn slip_size(self, m: usize, symbols: usize) -> usize
+        requires { (m ≤ 8) × (symbols ≤ 2 * longest) }
+        ensures { result ≡ slip_size (layout self) m symbols }
+    {
+        self.head_bits() / 8 + (symbols * m + 7) / 8
     }
 }
 
-// The bits before the points.
-pub fn head_bits(layout: Layout) -> usize
-    requires { Laid layout }
-    ensures { result ≡ head_bits layout }
+// The code of a field: 0, 1, 2 for m of 2, 4, 8.
+pub fn field_code(field: Field) -> usize
+    ensures { (result ≡ field_code field.m) × (result < 4) }
 {
-    9 + layout.countbits + layout.kbits + layout.zerobits
-}
-
-// The bytes of a slip with so many points and symbols in all.
-pub fn slip_size(layout: Layout, m: usize, symbols: usize) -> usize
-    requires { Laid layout × (m ≤ 8) × (symbols ≤ 2 * longest) }
-    ensures { result ≡ slip_size layout m symbols }
-{
-    head_bits(layout) / 8 + (symbols * m + 7) / 8
-}
-
-// The field of this m: 0, 1, 2 for 2, 4, 8, and 3 for none.
-pub fn field_code(m: usize) -> usize
-    ensures { (result ≡ field_code m) × (result < 4) }
-{
-    match m {
+    match field.m {
         2 => 0,
         4 => 1,
-        8 => 2,
-        _ => 3,
+        _ => 2,
     }
 }
 
-// The m of a field, and 0 where there is no such field.
-pub fn width_of(field: usize) -> usize
-    ensures { result ≡ width_of field }
+// The field of a code.
+pub fn field_of(code: usize) -> Option<Field>
+    ensures { MatchOption result (width_of code ≡ 0) (λ f. f.m ≡ width_of code) }
 {
-    match field {
-        0 => 2,
-        1 => 4,
-        2 => 8,
-        _ => 0,
+    match code {
+        0 => Some(Field { m: 2 }),
+        1 => Some(Field { m: 4 }),
+        2 => Some(Field { m: 8 }),
+        _ => None,
     }
 }

@@ -2,39 +2,36 @@
 // lower first, and standard output the line of each, as `second` computed it.
 #![tactic(auto)]
 
-ghost use Rattle.std.specs.Prelude.{◌<◌};
+ghost use Rattle.std.specs.Prelude.{length};
+ghost use Rattle.std.specs.Iterator.{at_most};
 
 use std::io;
 
 // More bytes than the table has.
 const ROOM: usize = 65536;
 
-fn wide(x: u8) -> usize
-    ensures { result < 256 }
-{
-    x as usize
-}
+// The slips of a table, up to its end or to one that is cut off.
+#[derive(Drop)]
+struct Slips<'a>(&'a [u8]);
 
-fn print_all(rt: &impl Print, frames: &[u8]) -> io::Result<()> {
-    let mut at = 0;
-    while at < frames.len() {
-        if frames.len() - at < 2 {
-            return Ok(());
-        }
-        let size = wide(frames[at]) + 256 * wide(frames[at + 1]);
-        let slip = at + 2;
-        if frames.len() - slip < size {
-            return Ok(());
-        }
-        let next = slip + size;
-        printing::print_line(rt, &frames[slip..next])?;
-        at = next;
+impl<'a> Iterator for Slips<'a> {
+    type Item = &'a [u8];
+
+    ghost remaining = { λ s. at_most (length s.0.now) };
+
+    fn next(&mut self) -> Option<&'a [u8]> {
+        let (size, behind) = self.0.split_first_chunk::<2>()?;
+        let (slip, rest) = behind.split_at_checked(usize::from(u16::from_le_bytes(*size)))?;
+        self.0 = rest;
+        Some(slip)
     }
-    Ok(())
 }
 
 fn main(rt: HostRuntime) -> io::Result<()> {
-    let mut frames = [0u8; ROOM];
-    let n = printing::read_full(&mut rt.stdin(), &mut frames)?;
-    print_all(&rt, &frames[..n])
+    let mut table = [0u8; ROOM];
+    let n = printing::read_full(&mut rt.stdin(), &mut table)?;
+    for slip in Slips(&table[..n]) {
+        printing::print_line(&rt, slip)?;
+    }
+    Ok(())
 }

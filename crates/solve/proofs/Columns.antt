@@ -1,14 +1,14 @@
 -- The turns at one column: its pivot is made 1 and brought to row c, and the rows after it are cleared.
 use mathlib.Core.Path.{◌≡◌, sym, ap, ap₂, ◌∙◌}
 use mathlib.Core.Logic.{⊎_elim}
-use Prim.Native.Nat.{ℕ, ◌+◌, ◌^◌, ◌<◌, ◌≤◌}
+use Prim.Native.Nat.{ℕ, ◌+◌, ◌^◌, ◌<◌}
 use native.Mathlib.Nat.{le_refl}
 use native.Mathlib.Omega.{arith}
 use Rattle.defs.specs.Field.{add, mul}
 use Rattle.theory.proofs.Order.{eq_or_not}
 use Rattle.theory.proofs.Field.{0-add, add_self, mul_comm, one_mul_of_lt}
 use Rattle.solve.specs.System.{Matrix}
-use Rattle.solve.specs.Step.{Pivot, Added, Stairs, Leads}
+use Rattle.solve.specs.Step.{IsPivot, Added, Stairs, Leads}
 use Rattle.solve.proofs.Steps.{scaled, added_stairs}
 
 -- a row that has 0 already
@@ -21,13 +21,10 @@ leads_skip {rows} {c} {i} {M} L e = record {
 
 module _ (m rows cols c : ℕ) (fits : c < cols) where
   -- the pivot is M p c, with inverse a
-  module _ (p a : ℕ) {M N : Matrix} (S : Stairs rows c M) (P : Pivot rows c M p) (found : p < rows) (small : M p c < 2 ^ m) (inv : mul m (M p c) a ≡ 1)
+  module _ (p a : ℕ) {M N : Matrix} (S : Stairs rows c M) (P : IsPivot rows c M p) (small : M p c < 2 ^ m) (inv : mul m (M p c) a ≡ 1)
       (A : Added m cols p p (add a 1) M N) where
-    from : c ≤ p
-    from = P.from
-
     pub stairs_one : Stairs rows c N
-    stairs_one = added_stairs m rows cols p p (add a 1) M N A c from from found (omega arith) S
+    stairs_one = added_stairs m rows cols p p (add a 1) M N A c P.from P.from P.to (omega arith) S
 
     is_one : N p c ≡ 1
     is_one = A.row c fits ∙ scaled m a (M p c) small ∙ mul_comm m a (M p c) ∙ inv
@@ -43,7 +40,7 @@ module _ (m rows cols c : ℕ) (fits : c < cols) where
     -- it stands below, and its row is added to row c, which has 0 there
     pub leads_added : {K : Matrix} → 1 < 2 ^ m → (p ≡ c → ⊥) → Added m cols c p 1 N K → Leads rows c (c + 1) K
     leads_added {K} h n B = record {
-      stairs = added_stairs m rows cols c p 1 N K B c (le_refl c) from found (omega arith) stairs_one;
+      stairs = added_stairs m rows cols c p 1 N K B c (le_refl c) P.from P.to (omega arith) stairs_one;
       one =
           B.row c fits
           ∙ ap₂ add (A.others c c (λ e. n (sym e)) fits ∙ P.before c (le_refl c) (omega arith)) (ap (mul m 1) is_one ∙ one_mul_of_lt m 1 h) ∙ 0-add 1;
@@ -60,10 +57,3 @@ module _ (m rows cols c : ℕ) (fits : c < cols) where
         (λ w. A.others k c w fits ∙ L.none k h (omega arith))
         (eq_or_not k i);
   }
-
--- all rows are cleared
-pub leads_all : {rows c i : ℕ} {M : Matrix} → rows ≤ i → Leads rows c i M → Stairs rows (c + 1) M
-leads_all {rows} {c} {i} {M} h L = record {
-  one = λ k l. ⊎_elim (λ w. rw w L.one) (λ w. L.stairs.one k (omega arith)) (eq_or_not k c);
-  none = λ i k li l g. ⊎_elim (λ w. rw w (L.none i (omega arith) (omega arith))) (λ w. L.stairs.none i k li (omega arith) g) (eq_or_not k c);
-}

@@ -2,7 +2,7 @@
 use mathlib.Core.Path.{◌≡◌, refl, sym, ap, ap₂, subst, ◌∙◌}
 use mathlib.Core.Logic.{⊎_elim}
 use Prim.Native.Nat.{ℕ, zero, suc, ◌+◌, ◌^◌, ◌<◌, ◌≤◌}
-use native.Mathlib.Nat.{le_refl, le_antisymm}
+use native.Mathlib.Nat.{le_refl}
 use native.Mathlib.Omega.{arith}
 use borrow.Author.Tests.{lt-ltb, le-ltb, eq-eqb, ne_eqb}
 use lib.Pow.{pow_pos}
@@ -12,9 +12,8 @@ use Rattle.theory.proofs.Order.{eq_or_not, lt_or_le, eq_lt}
 use Rattle.theory.proofs.Field.{add_0, add_self, mul_0, 0-mul, one_mul_of_lt}
 use Rattle.theory.proofs.Sum.{sum_zero, sum_from_lem, sum_cut, tail_more, tail_zero}
 use Rattle.solve.specs.System.{Matrix, Solves, free}
-use Rattle.solve.specs.Step.{Pivot, Alike, Stairs, Back}
-use Rattle.solve.specs.Answer.{IsFree, IsFull, Answers}
-use Rattle.solve.specs.declared.Solved.{Solved}
+use Rattle.solve.specs.Step.{NoPivot, Alike, Stairs, Back}
+use Rattle.solve.specs.Answer.{IsFree, IsFull}
 
 pub free_below : (M : Matrix) (c j : ℕ) → j < c → free M c j ≡ M j c
 unfolding free
@@ -36,7 +35,7 @@ free_lt m one N small c j =
     ⊎_elim (λ l. eq_lt (free_below N c j l) (small j c)) (λ l. eq_lt (free_past N c j (omega arith)) (pow_pos m)) (lt_or_le j c))
     (eq_or_not j c)
 
-module _ (m rows cols c : ℕ) (M N : Matrix) (below : c < cols) (S : Stairs rows c M) (P : Pivot rows c M rows) (B : Back m c M N)
+module _ (m rows cols c : ℕ) (M N : Matrix) (below : c < cols) (S : Stairs rows c M) (P : NoPivot rows c M) (B : Back m c M N)
     (small : (i j : ℕ) → N i j < 2 ^ m) where
   module _ (i : ℕ) (l : i < rows) where
     abbrev term : ℕ → ℕ
@@ -56,7 +55,7 @@ module _ (m rows cols c : ℕ) (M N : Matrix) (below : c < cols) (S : Stairs row
         sum_zero (suc c) term
         (λ j k.
         no_term j
-        (⊎_elim (λ e. rw e (P.before i h l)) (λ n. S.none i j l (omega arith) (omega arith)) (eq_or_not j c)))
+        (⊎_elim (λ e. rw e (P.none i h l)) (λ n. S.none i j l (omega arith) (omega arith)) (eq_or_not j c)))
 
     row_zero : sum cols term ≡ 0
     row_zero =
@@ -85,20 +84,16 @@ module _ (m rows cols : ℕ) (M : Matrix) (S : Stairs rows cols M) (fits : cols 
   pub all_zero : (j : ℕ) → j < cols → x j ≡ 0
   all_zero j l = last_zero cols j (omega arith) l
 
--- for a caller that knows which answer it has
-pub told : (m rows cols : ℕ) (M N : Matrix) {s s' : Solved} → s ≡ s' → Answers m rows cols M N s → Answers m rows cols M N s'
-told m rows cols M N e h = subst (λ (s : Solved). Answers m rows cols M N s) e h
-
 module _ (m rows cols : ℕ) {M₀ M : Matrix} (A : Alike m rows cols M₀ M) where
-  pub answer_free : {N : Matrix} (c p : ℕ) → c < cols → Stairs rows c M → Pivot rows c M p → p ≡ rows → Back m c M N → 1 < 2 ^ m → ((i j : ℕ) → N i j < 2 ^ m)
+  pub answer_free : {N : Matrix} (c : ℕ) → c < cols → Stairs rows c M → NoPivot rows c M → Back m c M N → 1 < 2 ^ m → ((i j : ℕ) → N i j < 2 ^ m)
       → IsFree m rows cols M₀ N c
-  answer_free {N} c p below S P e B one small = record {
+  answer_free {N} c below S P B one small = record {
     below = below;
     symbols = free_lt m one N small c;
     one = free_here N c;
-    solves = A.back (free N c) (free_solves m rows cols c M N below S (subst (λ (r : ℕ). Pivot rows c M r) e P) B small);
+    solves = A.back (free N c) (free_solves m rows cols c M N below S P B small);
   }
 
-  pub answer_full : (c : ℕ) → c ≤ cols → cols ≤ c → c ≤ rows → Stairs rows c M → IsFull m rows cols M₀
-  answer_full c h k l S x hx s =
-      all_zero m rows cols M (subst (λ (n : ℕ). Stairs rows n M) (le_antisymm h k) S) (omega arith) x hx (A.forth x s)
+  pub answer_full : (c : ℕ) → c ≡ cols → c ≤ rows → Stairs rows c M → IsFull m rows cols M₀
+  answer_full c e l S x hx s =
+      all_zero m rows cols M (subst (λ (n : ℕ). Stairs rows n M) e S) (omega arith) x hx (A.forth x s)

@@ -4,4 +4,5 @@ pub mod Columns
 pub mod Free
 pub mod Unknowns
 pub mod Writes
+pub mod Splice
 pub mod Sixteens

@@ -18,9 +18,6 @@ scaled m a d h = ap (add d) (mul_add_l m a 1 d ∙ ap (add (mul m a d)) (one_mul
     cancels b = simp sums
 
 module _ (m rows cols : ℕ) where
-  pub alike_refl : (M : Matrix) → Alike m rows cols M M
-  alike_refl M = record { forth = λ x s. s; back = λ x s. s }
-
   pub alike_trans : {M N K : Matrix} → Alike m rows cols M N → Alike m rows cols N K → Alike m rows cols M K
   alike_trans A B = record { forth = λ x s. B.forth x (A.forth x s); back = λ x s. A.back x (B.back x s) }
 

@@ -11,7 +11,7 @@ use Rattle.theory.proofs.Field.{add_0, add_comm, mul_comm, one_mul_of_lt}
 use Rattle.theory.proofs.Sum.{tail_more, tail_same, tail_zero}
 use Rattle.solve.specs.Table.{stride}
 use Rattle.solve.specs.System.{Matrix, free}
-use Rattle.solve.specs.Step.{Spread, Back}
+use Rattle.solve.specs.Step.{Spread}
 use Rattle.solve.proofs.Free.{free_below, free_here, free_past}
 
 -- unknowns from k on are in column c of N; above row k that column has what they make of each row of M
@@ -70,6 +70,3 @@ module _ (m c : ℕ) {M : Matrix} where
       same i p lp h =
           tail_same (suc p) (suc c) (λ j. mul m (M i j) (free N c j)) (λ j. mul m (M i j) (free K c j))
           (λ j g. ap (mul m (M i j)) (free_same c k N K S.below j (omega arith)))
-
-  pub backing_all : {k : ℕ} {N : Matrix} → k ≤ 0 → Backing m c k M N → Back m c M N
-  backing_all h B = record { asked = λ i l. B.asked i (omega arith) l }

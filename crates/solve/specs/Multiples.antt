@@ -1,18 +1,8 @@
 -- The multiples of a row by which any multiple of it is a sum of two: x times and 16 x times the row, for x below 16.
-use Rattle.std.specs.Prelude.{ℕ, ◌+◌, ◌*◌, ◌/◌, ◌%◌, ◌^◌, ◌<◌, ◌≤◌, ◌≡◌, List, length}
-use Rattle.defs.specs.Field.{Width, add, times2, mul}
-use Rattle.defs.specs.Place.{Symbols}
+use Rattle.std.specs.Prelude.{ℕ, ◌+◌, ◌/◌, ◌%◌, ◌^◌, ◌<◌, ◌≤◌, ◌≡◌}
+use Rattle.defs.specs.Field.{add, times2, mul}
 use Rattle.solve.specs.Table.{stride}
 use Rattle.solve.specs.System.{Matrix}
-
-abbrev pub multiples_size : ℕ
-multiples_size = 32 * stride
-
--- 32 rows of symbols of the field with 2 ^ m elements
-pub record Rows (m : ℕ) (w : List ℕ) : Type 0 where
-  pub width : Width m
-  pub size : length w ≡ multiples_size
-  pub symbols : Symbols m w
 
 -- in the columns from start to cols - 1, row 1 of N is row c of M; rows 0 and 16 are 0
 pub record Copied (start cols c : ℕ) (M N : Matrix) : Type 0 where

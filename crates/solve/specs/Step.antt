@@ -1,16 +1,25 @@
 -- What each step of the elimination does to the matrix M, entry by entry, and what it keeps.
-use Rattle.std.specs.Prelude.{ℕ, suc, ◌<◌, ◌≤◌, ◌≡◌}
+use Rattle.std.specs.Prelude.{ℕ, suc, ◌<◌, ◌≤◌, ◌≡◌, Option, Some, None}
 use Rattle.defs.specs.Field.{add, mul}
 use Rattle.defs.specs.Row.{sum_from}
 use Rattle.solve.specs.Table.{stride}
 use Rattle.solve.specs.System.{Matrix, Solves, free}
 
--- p is the first row from c on with an entry that is not 0 in column c, or rows where there is none
-pub record Pivot (rows c : ℕ) (M : Matrix) (p : ℕ) : Type 0 where
+-- p is the first row from c on with an entry that is not 0 in column c
+pub record IsPivot (rows c : ℕ) (M : Matrix) (p : ℕ) : Type 0 where
   pub from : c ≤ p
-  pub to : p ≤ rows
+  pub to : p < rows
   pub before : (i : ℕ) → c ≤ i → i < p → M i c ≡ 0
-  pub found : p < rows → M p c ≡ 0 → ⊥
+  pub found : M p c ≡ 0 → ⊥
+
+-- the rows from c on have 0 in column c
+pub record NoPivot (rows c : ℕ) (M : Matrix) : Type 0 where
+  pub none : (i : ℕ) → c ≤ i → i < rows → M i c ≡ 0
+
+-- the first row from c on with an entry that is not 0 in column c, where there is one
+abbrev pub Pivot : ℕ → ℕ → Matrix → Option ℕ → Type 0
+Pivot rows c M (Some p) = IsPivot rows c M p
+Pivot rows c M None = NoPivot rows c M
 
 -- N is M with row p times f added to row r
 pub record Added (m cols r p f : ℕ) (M N : Matrix) : Type 0 where

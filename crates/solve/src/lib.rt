@@ -1,171 +1,167 @@
-// Elimination over a field with 2^m elements, to the first column that depends on those before it.
+// Elimination over a field, to the first column that depends on those before it.
 // A system's rows stand in a working table, one after the other; its last rows and columns may be unused.
 #![tactic(auto)]
 
 mod multiples;
 
-ghost use Rattle.std.specs.Prelude.{◌≡◌, ℕ, ◌+◌, ◌*◌, ◌<◌, ◌≤◌, ◌^◌, length};
+ghost use Rattle.std.specs.Prelude.{◌≡◌, ℕ, ◌+◌, ◌<◌, ◌≤◌, ◌^◌};
 ghost use Rattle.defs.specs.Limits.{longest};
-ghost use Rattle.solve.specs.Table.{stride, table_size, at, Shape};
+ghost use Rattle.defs.specs.Place.{Symbols};
+ghost use Rattle.solve.specs.Table.{stride, at};
 ghost use Rattle.solve.specs.System.{free};
-ghost use Rattle.solve.specs.Step.{Pivot, Added, Alike, Stairs, Leads, Spread, Back};
+ghost use Rattle.solve.specs.Step.{IsPivot, Pivot, Added, Alike, Stairs, Leads, Spread, Back};
 ghost use Rattle.solve.specs.Answer.{Answers};
 
 use defs::LONGEST;
+use field::Field;
+use multiples::{Columns, RowMultiples};
 
 // The entries of a row of the working table, and those of the whole table.
 pub const STRIDE: usize = LONGEST + 1;
 
 pub const TABLE: usize = LONGEST * STRIDE;
 
-// What an elimination finds.
+// How far a system reaches: a row for each equation, a column for each unknown.
+#[derive(Clone, Copy)]
+pub struct Extent {
+    pub field: Field,
+    pub rows: usize,
+    pub cols: usize,
+    pub ghost rows_fit: { rows ≤ longest },
+    pub ghost cols_fit: { cols ≤ stride },
+}
+
+// The working table, with a system in its first rows and columns.
 #[derive(Drop)]
-pub enum Solved {
-    // This unknown is free, and its column gives a solution that is not zero.
-    Free(usize),
-    // Only the zero vector solves.
-    Full,
+pub struct Table {
+    pub extent: Extent,
+    pub entries: [u8; TABLE],
+    pub ghost symbols: { Symbols extent.field.m entries },
 }
 
-// The first row from c on with an entry that is not 0 in column c, or `rows`.
-fn find_pivot(t: &[u8; TABLE], rows: usize, c: usize) -> usize
-    requires { (length t.now ≡ table_size) × (rows ≤ longest) × (c ≤ rows) × (c < stride) }
-    ensures { Pivot rows c (at t.now) result }
-{
-    let mut i = c;
-    while i < rows {
-        if t[i * STRIDE + c] != 0 {
-            return i;
+impl Table {
+    // The first row from c on with an entry that is not 0 in column c.
+    fn find_pivot(&self, c: usize) -> Option<usize>
+        requires { c < self.now.extent.cols }
+        ensures { Pivot self.now.extent.rows c (at self.now.entries) result }
+    {
+        (c..self.extent.rows).find(|i| self.entries[*i * STRIDE + c] != 0)
+    }
+
+    // Adds row p times f to row r. Row p has 0 before column c, so the work starts there.
+    // RowMultiples::add_to has a loop of its own: a closure for where the products come from would have to read the table that the loop changes.
+    fn add_row(&mut self, c: usize, r: usize, p: usize, f: u8)
+        requires symbol { f < 2 ^ self.old.extent.field.m }
+        requires to_row { r < longest }
+        requires from_row { p < longest }
+        requires column { c ≤ self.old.extent.cols }
+        requires zero_before { (j : ℕ) → j < c → at self.old.entries p j ≡ 0 }
+        ensures same_extent { self.new.extent ≡ self.old.extent }
+        ensures added { let e = self.old.extent in Added e.field.m e.cols r p f (at self.old.entries) (at self.new.entries) }
+    {
+        let row = self.extent.field.product_row(f);
+        let base = r * STRIDE;
+        let from = p * STRIDE;
+        for j in c..self.extent.cols {
+            self.entries[base + j] ^= row[usize::from(self.entries[from + j])];
         }
-        i += 1;
     }
-    i
-}
 
-// Adds row p times f to row r. Row p has 0 before column c, so the work starts there.
-fn add_row(t: &mut [u8; TABLE], m: usize, cols: usize, c: usize, r: usize, p: usize, f: u8)
-    requires shape { Shape m t.old }
-    requires f_bound { (f < 2 ^ m) × (r < longest) × (p < longest) × (c ≤ cols) × (cols ≤ stride) }
-    requires by_index { (j : ℕ) → j < c → at t.old p j ≡ 0 }
-    ensures shape_2 { Shape m t.new }
-    ensures added { Added m cols r p f (at t.old) (at t.new) }
-{
-    let row = field::product_row(m, f);
-    let base = r * STRIDE;
-    let from = p * STRIDE;
-    let mut j = c;
-    while j < cols {
-        let k = base + j;
-        let x = t[from + j];
-        t[k] = t[k] ^ row[x as usize];
-        j += 1;
-    }
-}
-
-// Makes the pivot in row p 1, and adds its row to row c, which has 0 there, unless it is row c.
-fn bring_pivot(t: &mut [u8; TABLE], m: usize, rows: usize, cols: usize, c: usize, p: usize)
-    requires shape { Shape m t.old }
-    requires p_lt_rows { (p < rows) × (rows ≤ longest) × (c < cols) × (cols ≤ stride) }
-    requires pivot { Pivot rows c (at t.old) p }
-    requires stairs { Stairs rows c (at t.old) }
-    ensures shape_2 { Shape m t.new }
-    ensures alike { Alike m rows cols (at t.old) (at t.new) }
-    ensures leads { Leads rows c (c + 1) (at t.new) }
-{
-    let a = field::inverse(m, t[p * STRIDE + c]);
-    // Adding a row to itself scales it: x + (a + 1) x = a x.
-    add_row(t, m, cols, c, p, p, a ^ 1);
-    if p == c {
-        return;
-    }
-    add_row(t, m, cols, c, c, p, 1);
-}
-
-// Clears column c in the rows after row c, which has 1 there.
-fn clear_below(t: &mut [u8; TABLE], m: usize, rows: usize, cols: usize, c: usize)
-    requires shape { Shape m t.old }
-    requires c_lt_rows { (c < rows) × (rows ≤ longest) × (c < cols) × (cols ≤ stride) }
-    requires leads { Leads rows c (c + 1) (at t.old) }
-    ensures shape_2 { Shape m t.new }
-    ensures alike { Alike m rows cols (at t.old) (at t.new) }
-    ensures stairs { Stairs rows (c + 1) (at t.new) }
-{
-    // Whole blocks of 16 entries are faster, and row c has 0 before column c.
-    let start = c - c % 16;
-    let w = multiples::multiples(t, m, start, cols, c);
-    let mut i = c + 1;
-    while i < rows {
-        let f = t[i * STRIDE + c];
-        if f != 0 {
-            multiples::add_multiple(t, &w, m, start, cols, i, c, f);
+    // Makes the pivot in row p 1, and adds its row to row c, which has 0 there, unless it is row c.
+    fn bring_pivot(&mut self, c: usize, p: usize)
+        requires column { c < self.old.extent.cols }
+        requires pivot { IsPivot self.old.extent.rows c (at self.old.entries) p }
+        requires stairs { Stairs self.old.extent.rows c (at self.old.entries) }
+        ensures same_extent { self.new.extent ≡ self.old.extent }
+        ensures alike { let e = self.old.extent in Alike e.field.m e.rows e.cols (at self.old.entries) (at self.new.entries) }
+        ensures leads { Leads self.old.extent.rows c (c + 1) (at self.new.entries) }
+    {
+        let a = self.extent.field.inverse(self.entries[p * STRIDE + c]);
+        // Adding a row to itself scales it: x + (a + 1) x = a x.
+        self.add_row(c, p, p, a ^ 1);
+        if p != c {
+            self.add_row(c, c, p, 1);
         }
-        i += 1;
     }
-}
 
-// Adds column k, times unknown k, to column c above row k.
-fn spread(t: &mut [u8; TABLE], m: usize, c: usize, k: usize)
-    requires shape { Shape m t.old }
-    requires k_lt_c { (k < c) × (c < stride) }
-    ensures shape_2 { Shape m t.new }
-    ensures spread { Spread m c k (at t.old) (at t.new) }
-{
-    let row = field::product_row(m, t[k * STRIDE + c]);
-    let mut i = 0;
-    while i < k {
-        let base = i * STRIDE;
-        let x = t[base + k];
-        let q = base + c;
-        t[q] = t[q] ^ row[x as usize];
-        i += 1;
-    }
-}
-
-// Puts the unknowns before c into column c, the last one first, where unknown c is 1 and those after it are 0.
-fn substitute(t: &mut [u8; TABLE], m: usize, c: usize)
-    requires shape { Shape m t.old }
-    requires c_lt_stride { c < stride }
-    ensures shape_2 { Shape m t.new }
-    ensures back { Back m c (at t.old) (at t.new) }
-{
-    let mut k = c;
-    while k > 0 {
-        k -= 1;
-        spread(t, m, c, k);
-    }
-}
-
-// Solves the system in the first `rows` rows and `cols` columns, up to the first unknown that is free.
-pub fn eliminate(t: &mut [u8; TABLE], m: usize, rows: usize, cols: usize) -> Solved
-    requires shape { Shape m t.old }
-    requires rows_le_longest { (rows ≤ longest) × (cols ≤ stride) }
-    ensures shape_2 { Shape m t.new }
-    ensures answers { Answers m rows cols (at t.old) (at t.new) result }
-{
-    let mut c = 0;
-    while c < cols {
-        let p = find_pivot(t, rows, c);
-        if p == rows {
-            substitute(t, m, c);
-            return Solved::Free(c);
+    // Clears column c in the rows after row c, which has 1 there.
+    fn clear_below(&mut self, c: usize)
+        requires row { c < self.old.extent.rows }
+        requires column { c < self.old.extent.cols }
+        requires leads { Leads self.old.extent.rows c (c + 1) (at self.old.entries) }
+        ensures same_extent { self.new.extent ≡ self.old.extent }
+        ensures alike { let e = self.old.extent in Alike e.field.m e.rows e.cols (at self.old.entries) (at self.new.entries) }
+        ensures stairs { Stairs self.old.extent.rows (c + 1) (at self.new.entries) }
+    {
+        // Whole blocks of 16 entries are faster, and row c has 0 before column c.
+        let columns = Columns {
+            field: self.extent.field,
+            start: c - c % 16,
+            end: self.extent.cols,
+        };
+        let multiples = RowMultiples::of_row(self, columns, c);
+        for i in c + 1..self.extent.rows {
+            let f = self.entries[i * STRIDE + c];
+            if f != 0 {
+                multiples.add_to(self, i, c, f);
+            }
         }
-        bring_pivot(t, m, rows, cols, c, p);
-        clear_below(t, m, rows, cols, c);
-        c += 1;
     }
-    Solved::Full
-}
 
-// Unknown j of the solution that an elimination with the free unknown c leaves.
-pub fn unknown(t: &[u8; TABLE], c: usize, j: usize) -> u8
-    requires { (length t.now ≡ table_size) × (c < stride) }
-    ensures { result ≡ free (at t.now) c j }
-{
-    if j < c {
-        return t[j * STRIDE + c];
+    // Adds column k, times unknown k, to column c above row k.
+    fn spread(&mut self, c: usize, k: usize)
+        requires column { c < stride }
+        requires before { k < c }
+        ensures same_extent { self.new.extent ≡ self.old.extent }
+        ensures spread { Spread self.old.extent.field.m c k (at self.old.entries) (at self.new.entries) }
+    {
+        let row = self.extent.field.product_row(self.entries[k * STRIDE + c]);
+        for i in 0..k {
+            let base = i * STRIDE;
+            self.entries[base + c] ^= row[usize::from(self.entries[base + k])];
+        }
     }
-    if j == c {
-        return 1;
+
+    // Puts the unknowns before c into column c, the last one first, where unknown c is 1 and those after it are 0.
+    fn substitute(&mut self, c: usize)
+        requires { c < stride }
+        ensures same_extent { self.new.extent ≡ self.old.extent }
+        ensures back { Back self.old.extent.field.m c (at self.old.entries) (at self.new.entries) }
+    {
+        for k in (0..c).rev() {
+            self.spread(c, k);
+        }
     }
-    0
+
+    // Solves the system up to the first unknown that is free: its column then gives a solution that is not zero. Where none is free, only the
+    // zero vector solves.
+    pub fn eliminate(&mut self) -> Option<usize>
+        ensures same_extent { self.new.extent ≡ self.old.extent }
+        ensures answers { let e = self.old.extent in Answers e.field.m e.rows e.cols (at self.old.entries) (at self.new.entries) result }
+    {
+        for c in 0..self.extent.cols {
+            let Some(p) = self.find_pivot(c) else {
+                self.substitute(c);
+                return Some(c);
+            };
+            self.bring_pivot(c, p);
+            self.clear_below(c);
+        }
+        None
+    }
+
+    // Unknown j of the solution that an elimination with the free unknown c leaves.
+    #[tactic(auto, unfolding(crate::specs::System::free))]
+    pub fn unknown(&self, c: usize, j: usize) -> u8
+        requires { c < stride }
+        ensures { result ≡ free (at self.now.entries) c j }
+    {
+        if j < c {
+            self.entries[j * STRIDE + c]
+        } else if j == c {
+            1
+        } else {
+            0
+        }
+    }
 }

@@ -1,113 +1,114 @@
 // Multiples of a row, kept beside the working table so that any multiple of the row is the sum of two of them.
-ghost use Rattle.std.specs.Prelude.{◌≡◌, ℕ, ◌<◌, ◌≤◌, ◌^◌};
+ghost use Rattle.std.specs.Prelude.{◌≡◌, ℕ, ◌<◌, ◌≤◌, ◌^◌, get_or};
 ghost use Rattle.defs.specs.Limits.{longest};
-ghost use Rattle.solve.specs.Table.{stride, at, Shape};
+ghost use Rattle.defs.specs.Place.{Symbols};
+ghost use Rattle.solve.specs.Table.{stride, at};
 ghost use Rattle.solve.specs.Step.{Added};
-ghost use Rattle.solve.specs.Multiples.{Rows, Copied, Set, Filled, Multiples};
+ghost use Rattle.solve.specs.Multiples.{Copied, Set, Filled, Multiples};
 
-use crate::{STRIDE, TABLE};
+use crate::{STRIDE, Table};
+use field::Field;
 
 // The entries of the multiples of a row: its first 16, and the first 16 of 16 times the row.
-pub const MULTIPLES: usize = 32 * STRIDE;
+const MULTIPLES: usize = 32 * STRIDE;
 
-// Makes row x of w twice its row `half` with row `one` added.
-fn set_multiple(
-    w: &mut [u8; MULTIPLES],
-    m: usize,
-    start: usize,
-    cols: usize,
-    x: usize,
-    half: usize,
-    one: usize,
-)
-    requires rows { Rows m w.old }
-    requires x_bound { (x < 32) × (half < x) × (one < x) × (start ≤ cols) × (cols ≤ stride) }
-    ensures rows_2 { Rows m w.new }
-    ensures set { Set m start cols x half one (at w.old) (at w.new) }
-{
-    let to = x * STRIDE;
-    let from = half * STRIDE;
-    let other = one * STRIDE;
-    let mut j = start;
-    while j < cols {
-        let a = w[from + j];
-        let b = w[other + j];
-        w[to + j] = field::times2(m, a) ^ b;
-        j += 1;
+// The part of a row that is worked at: its entries from start to end - 1, over a field.
+#[derive(Clone, Copy)]
+pub struct Columns {
+    pub field: Field,
+    pub start: usize,
+    pub end: usize,
+    pub ghost ordered: { start ≤ end },
+    pub ghost fit: { end ≤ stride },
+}
+
+// The multiples of a row in these columns, by rows of a table of their own.
+#[derive(Drop)]
+pub struct RowMultiples {
+    pub columns: Columns,
+    entries: [u8; MULTIPLES],
+    pub ghost symbols: { Symbols columns.field.m entries },
+}
+
+impl RowMultiples {
+    // Makes row x twice row half, with row one added.
+    fn set_multiple(&mut self, x: usize, half: usize, one: usize)
+        requires row { x < 32 }
+        requires half_before { half < x }
+        requires one_before { one < x }
+        ensures same_columns { self.new.columns ≡ self.old.columns }
+        ensures set { let k = self.old.columns in Set k.field.m k.start k.end x half one (at self.old.entries) (at self.new.entries) }
+    {
+        let to = x * STRIDE;
+        let from = half * STRIDE;
+        let other = one * STRIDE;
+        let field = self.columns.field;
+        for j in self.columns.start..self.columns.end {
+            self.entries[to + j] = field.times2(self.entries[from + j]) ^ self.entries[other + j];
+        }
     }
-}
 
-// Makes the rows of w after row base, which is 0, the multiples of the first of them.
-fn fill(w: &mut [u8; MULTIPLES], m: usize, start: usize, cols: usize, base: usize)
-    requires rows { Rows m w.old }
-    requires base_bound { (base ≤ 16) × (start ≤ cols) × (cols ≤ stride) }
-    requires by_index { (j : ℕ) → start ≤ j → j < cols → at w.old base j ≡ 0 }
-    ensures rows_2 { Rows m w.new }
-    ensures filled { Filled m start cols base 16 (at w.old) (at w.new) }
-{
-    let mut x = 2;
-    while x < 16 {
-        set_multiple(w, m, start, cols, base + x, base + x / 2, base + x % 2);
-        x += 1;
+    // Makes the rows after row base, which is 0, the multiples of the first of them.
+    fn fill(&mut self, base: usize)
+        requires row { base ≤ 16 }
+        requires zero { let k = self.old.columns in (j : ℕ) → k.start ≤ j → j < k.end → at self.old.entries base j ≡ 0 }
+        ensures same_columns { self.new.columns ≡ self.old.columns }
+        ensures filled { let k = self.old.columns in Filled k.field.m k.start k.end base 16 (at self.old.entries) (at self.new.entries) }
+    {
+        for x in 2..16 {
+            self.set_multiple(base + x, base + x / 2, base + x % 2);
+        }
     }
-}
 
-// Row c of t as row 1, and 0 elsewhere.
-fn copied(t: &[u8; TABLE], m: usize, start: usize, cols: usize, c: usize) -> [u8; MULTIPLES]
-    requires shape { Shape m t.now }
-    requires start_le_cols { (start ≤ cols) × (cols ≤ stride) × (c < longest) }
-    ensures rows { Rows m result }
-    ensures copied { Copied start cols c (at t.now) (at result) }
-{
-    let mut w = [0u8; MULTIPLES];
-    let from = c * STRIDE;
-    let mut j = start;
-    while j < cols {
-        w[STRIDE + j] = t[from + j];
-        j += 1;
+    // Makes row 1 of these, which are all 0, row c of the table.
+    fn copy_row(&mut self, table: &Table, c: usize)
+        requires row { c < longest }
+        requires same_field { self.old.columns.field ≡ table.now.extent.field }
+        requires zero { (k : ℕ) → get_or self.old.entries k 0 ≡ 0 }
+        ensures same_columns { self.new.columns ≡ self.old.columns }
+        ensures copied { let k = self.old.columns in Copied k.start k.end c (at table.now.entries) (at self.new.entries) }
+    {
+        let from = c * STRIDE;
+        let Columns { start, end, .. } = self.columns;
+        self.entries[STRIDE + start..STRIDE + end].copy_from_slice(
+            &table.entries[from + start..from + end],
+        );
     }
-    w
-}
 
-// The multiples of row c by which every other multiple is a sum of two.
-pub fn multiples(t: &[u8; TABLE], m: usize, start: usize, cols: usize, c: usize) -> [u8; MULTIPLES]
-    requires shape { Shape m t.now }
-    requires start_le_cols { (start ≤ cols) × (cols ≤ stride) × (c < longest) }
-    ensures rows { Rows m result }
-    ensures multiples { Multiples m start cols (at t.now c) (at result) }
-{
-    let mut w = copied(t, m, start, cols, c);
-    fill(&mut w, m, start, cols, 0);
-    set_multiple(&mut w, m, start, cols, 17, 8, 0);
-    fill(&mut w, m, start, cols, 16);
-    w
-}
+    // The multiples of row c by which every other multiple is a sum of two.
+    pub fn of_row(table: &Table, columns: Columns, c: usize) -> RowMultiples
+        requires row { c < longest }
+        requires same_field { columns.field ≡ table.now.extent.field }
+        ensures same_columns { result.columns ≡ columns }
+        ensures multiples { Multiples columns.field.m columns.start columns.end (at table.now.entries c) (at result.entries) }
+    {
+        let mut multiples = RowMultiples {
+            columns,
+            entries: [0; MULTIPLES],
+        };
+        multiples.copy_row(table, c);
+        multiples.fill(0);
+        multiples.set_multiple(17, 8, 0);
+        multiples.fill(16);
+        multiples
+    }
 
-// Adds row p times f to row r, where w has the multiples of row p, which has 0 before column start.
-pub fn add_multiple(
-    t: &mut [u8; TABLE],
-    w: &[u8; MULTIPLES],
-    m: usize,
-    start: usize,
-    cols: usize,
-    r: usize,
-    p: usize,
-    f: u8,
-)
-    requires shape { Shape m t.old × Rows m w.now }
-    requires f_bound { (f < 2 ^ m) × (r < longest) × (p < longest) × (start ≤ cols) × (cols ≤ stride) }
-    requires multiples { Multiples m start cols (at t.old p) (at w.now) }
-    requires by_index { (j : ℕ) → j < start → at t.old p j ≡ 0 }
-    ensures shape_2 { Shape m t.new }
-    ensures added { Added m cols r p f (at t.old) (at t.new) }
-{
-    let base = r * STRIDE;
-    let low = (f % 16) as usize * STRIDE;
-    let high = (16 + f / 16) as usize * STRIDE;
-    let mut j = start;
-    while j < cols {
-        let k = base + j;
-        t[k] = t[k] ^ (w[low + j] ^ w[high + j]);
-        j += 1;
+    // Adds row p times f to row r of the table, by the multiples of row p, which has 0 before the columns.
+    pub fn add_to(&self, table: &mut Table, r: usize, p: usize, f: u8)
+        requires same_field { self.now.columns.field ≡ table.old.extent.field }
+        requires to_end { self.now.columns.end ≡ table.old.extent.cols }
+        requires symbol { f < 2 ^ table.old.extent.field.m }
+        requires to_row { r < longest }
+        requires multiples { let k = self.now.columns in Multiples k.field.m k.start k.end (at table.old.entries p) (at self.now.entries) }
+        requires zero_before { (j : ℕ) → j < self.now.columns.start → at table.old.entries p j ≡ 0 }
+        ensures same_extent { table.new.extent ≡ table.old.extent }
+        ensures added { let e = table.old.extent in Added e.field.m e.cols r p f (at table.old.entries) (at table.new.entries) }
+    {
+        let base = r * STRIDE;
+        let low = usize::from(f % 16) * STRIDE;
+        let high = usize::from(16 + f / 16) * STRIDE;
+        for j in self.columns.start..self.columns.end {
+            table.entries[base + j] ^= self.entries[low + j] ^ self.entries[high + j];
+        }
     }
 }

@@ -1,6 +1,5 @@
 -- The laws of decimal numbers and of texts.
 pub mod Decimal
-pub mod Pieces
 pub mod Handing
 pub mod Numbers
 pub mod Back

@@ -1,3 +1,3 @@
--- What the functions on texts hand one another.
-pub mod Piece
+-- What the functions on texts promise.
+pub mod Handed
 pub mod Number

@@ -5,11 +5,11 @@ use mathlib.Core.List.{List, [], ◌∷◌, ◌++◌, append_assoc, append-nil}
 use native.Mathlib.Nat.{add-suc, add-zero, zero-add}
 use native.Mathlib.Numerals.{add-one}
 use native.Mathlib.Omega.{arith}
-use lib.ListN.{length, get_or, take, drop, set, length-append, length-drop, take-append-drop}
+use lib.ListN.{length, get_or, take, drop, set, length-append, take-append-drop}
 use lib.Seq.{length-take-le, drop-cons, set_at, append_snoc}
 use Rattle.defs.specs.Place.{tab}
 use Rattle.theory.specs.Fill.{filled}
-use Rattle.theory.proofs.Place.{length_tab, tab_snoc, tab_get_d}
+use Rattle.theory.proofs.Place.{length_tab, tab_snoc}
 
 head_length : (d : List ℕ) (at : ℕ) (F : ℕ → ℕ) (n : ℕ) → at ≤ length d → length (take at d ++ tab F n) ≡ at + n
 head_length d at F n h = length-append (take at d) (tab F n) ∙ cc (length-take-le at d h, length_tab F n)
@@ -37,15 +37,7 @@ filled_more d at F j hd =
 pub filled_next : (d : List ℕ) (F : ℕ → ℕ) (i : ℕ) → i < length d → set (filled d 0 F i) i (F i) ≡ filled d 0 F (i + 1)
 filled_next d F i h = subst (λ (k : ℕ). set (filled d 0 F i) k (F i) ≡ filled d 0 F (i + 1)) (zero-add i) (filled_more d 0 F i (omega arith))
 
-pub length_filled : (d : List ℕ) (at : ℕ) (F : ℕ → ℕ) (n : ℕ) → at + n ≤ length d → length (filled d at F n) ≡ length d
-unfolding filled
-length_filled d at F n h =
-    length-append (take at d ++ tab F n) (drop (at + n) d) ∙ omega (arith, head_length d at F n (omega arith), length-drop (at + n) d)
-
--- what the loop leaves: new values in front, or a copy of s
+-- what the loop leaves: new values in front
 pub filled_front : (d : List ℕ) (F : ℕ → ℕ) (n : ℕ) → filled d 0 F n ≡ tab F n ++ drop n d
 unfolding filled
 filled_front d F n = ap (λ (k : ℕ). tab F n ++ drop k d) (zero-add n)
-
-pub filled_copy : (d s : List ℕ) → filled d 0 (λ i. get_or s i 0) (length s) ≡ s ++ drop (length s) d
-filled_copy d s = filled_front d _ (length s) ∙ ap (λ (l : List ℕ). l ++ drop (length s) d) (tab_get_d s)

@@ -11,13 +11,12 @@ use lib.ListN.{length, get_or}
 use borrow.Author.Tests.{ltb-false, eqb-true, eqb-false, not-false, le-ltb, lt-leb, ne_eqb}
 use Rattle.defs.specs.Field.{Width}
 use Rattle.defs.specs.Place.{least, first_high, Symbols}
-use Rattle.defs.specs.Refusal.{refuse, and_then}
+use Rattle.defs.specs.Refusal.{refuse, and_then, Verdict, fine}
 use Rattle.defs.specs.Limits.{deepest, longest, is_width, numbers_verdict, first_twice, code_verdict, Within, Inside}
-use Rattle.defs.specs.declared.Verdict.{Verdict}
-use Rattle.defs.specs.declared.Verdict.TheVariants.{Fine, Refused}
 use Rattle.theory.specs.Limits.{Distinct, Numbers, Limits}
 use Rattle.theory.proofs.Place.{least_none, least_all, none_high}
 use Rattle.theory.proofs.Verdict.{or_false, refuse_fine, then_fine}
+use Rattle.std.proofs.Common.{Err, Ok}
 
 pub width_known : (m : ℕ) → is_width m ≡ true → Width m
 width_known m e = two (eqb m 2) refl e
@@ -31,7 +30,7 @@ width_known m e = two (eqb m 2) refl e
     two false q e = four (eqb m 4) refl e
 
 -- top is the longest row that is allowed
-module _ (top m r k count : ℕ) (small : top ≤ longest) (e : numbers_verdict top m r k count ≡ Fine) where
+module _ (top m r k count : ℕ) (small : top ≤ longest) (e : numbers_verdict top m r k count ≡ fine) where
   numbers_told : (r * count ≤ top) × Numbers m r k count
   unfolding numbers_verdict
   numbers_told =
@@ -93,7 +92,7 @@ width_is m (inl e) = rw e
 width_is m (inr (inl e)) = rw e
 width_is m (inr (inr e)) = rw e
 
-numbers_within : (top m r k count : ℕ) → Numbers m r k count → r * count ≤ top → numbers_verdict top m r k count ≡ Fine
+numbers_within : (top m r k count : ℕ) → Numbers m r k count → r * count ≤ top → numbers_verdict top m r k count ≡ fine
 unfolding numbers_verdict refuse
 numbers_within top m r k count s short =
     rw (
@@ -136,8 +135,8 @@ module _ (top m r k : ℕ) (points : List ℕ) (small : top ≤ longest) where
   longer : (v rest : Verdict) → numbers_verdict top m r k (length points) ≡ v
       → and_then v rest ≡ and_then v (and_then (numbers_verdict longest m r k (length points)) rest)
   unfolding and_then
-  longer (Refused x) rest e = refl
-  longer Fine rest e =
+  longer (Err x) rest e = refl
+  longer (Ok _) rest e =
       let n = numbers_known top m r k (length points) small e in
       rw (numbers_within longest m r k (length points) n n.row_top)
 

@@ -7,7 +7,7 @@ use native.Mathlib.Omega.{arith}
 use lib.Dec.{eqb, ltb, lit<}
 use lib.ListN.{length}
 use Rattle.defs.specs.Place.{first_high}
-use Rattle.defs.specs.Refusal.{place_of, and_then}
+use Rattle.defs.specs.Refusal.{place_of, and_then, Verdict}
 use Rattle.defs.specs.Limits.{deepest, longest, numbers_verdict, first_twice, code_verdict}
 use Rattle.defs.specs.Encode.{symbols_verdict, encode_verdict, distance_verdict}
 use Rattle.defs.specs.Decode.{decode_verdict}
@@ -15,7 +15,6 @@ use Rattle.defs.specs.Slip.{layout_of}
 use Rattle.defs.specs.Write.{write_verdict}
 use Rattle.defs.specs.declared.Refusal.{Refusal}
 use Rattle.defs.specs.declared.Refusal.TheVariants.{Field, Depth, Points, Dimension, PointHigh, PointTwice, Length, SymbolHigh, Edition}
-use Rattle.defs.specs.declared.Verdict.{Verdict}
 use Rattle.theory.specs.Limits.{Numbers}
 use Rattle.theory.proofs.Layouts.{layout_top}
 use Rattle.theory.proofs.Limits.{numbers_known, within_known, count_small}
@@ -45,14 +44,14 @@ module _ {P : Refusal → Type 0} (low : (x : Refusal) → place_of x < longest 
     code_every top small =
         every_then (numbers_verdict top m r k (length points)) _
         (numbers_every top m r k (length points) (low Field (lit< tt)) (λ t. low Depth (lit< tt)) (low Points (lit< tt)) (low Dimension (lit< tt)))
-        (λ fine. let few : length points ≤ longest = count_small (numbers_known top m r k (length points) small fine) in
+        (λ is_fine. let few : length points ≤ longest = count_small (numbers_known top m r k (length points) small is_fine) in
         every_place (first_high m points) (length points) _ _ (λ l. low (PointHigh _) (omega arith))
         (every_place (first_twice points) (length points) _ _ (λ l. low (PointTwice _) (omega arith)) every_fine))
 
     -- the checks behind those of the code know its limits
     behind_code : (top : ℕ) → top ≤ longest → (v : Verdict) → (Numbers m r k (length points) → Every P v)
         → Every P (and_then (code_verdict top m r k points) v)
-    behind_code top small v rest = every_then _ v (code_every top small) (λ fine. rest (within_known top m r k points small fine).numbers)
+    behind_code top small v rest = every_then _ v (code_every top small) (λ is_fine. rest (within_known top m r k points small is_fine).numbers)
 
     pub encode_every : (message : List ℕ) (size : ℕ) → Every P (encode_verdict m r k points message size)
     unfolding encode_verdict

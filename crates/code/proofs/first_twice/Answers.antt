@@ -1,23 +1,26 @@
--- `first_twice` meets its contract: no symbol before i equals an earlier one, and seen marks those passed.
+-- `first_twice` meets its contract: it stops at a symbol that is marked, or has passed them all.
+use Prim.Native.Nat.{◌<◌}
 use native.Mathlib.Omega.{arith}
+use lib.ListN.{get_or}
 use borrow.Author.Count.{below_more}
-use Rattle.defs.specs.Limits.{first_twice}
-use Rattle.theory.proofs.Place.{found_least, none_least}
-use Rattle.code.proofs.Search.{seen_first, seen_more, twice_here, once_here}
+use Rattle.code.proofs.Search.{seen_first, seen_more, twice_here, once_here, twice_found, twice_none}
 use Rattle.code.proofs.first_twice.Goals as goal
 
 pub loop-i-init : goal.loop-i-init
-loop-i-init c = (omega arith, seen_first _, λ j l. absurd (omega arith))
+loop-i-init c = (seen_first _, λ j l. absurd (omega arith))
 
 pub loop-i-preserved : goal.loop-i-preserved
 loop-i-preserved c = let at = c.loop-i in
-    let low = c.type_inv.points at.i in
-    (omega arith, seen_more _ _ _ at.invariant.1 (omega (arith, low)), below_more _ _ at.invariant.2 (once_here _ _ _ at.invariant.1 (omega (arith, low)) c.if-seen-x-ne0.false))
+    let low : get_or c.args.points.now at.i 0 < 256 = omega (arith, c.type_inv.points at.i) in
+    rw c.from-in-loop-i.ensures (
+      seen_more _ _ _ at.invariant.0 low,
+      below_more _ _ at.invariant.1 (once_here _ _ _ at.invariant.0 low (rw c.from.ensures at c.if-seen-from.false)),
+    )
 
 pub returns : goal.returns
-unfolding first_twice
-returns c = none_least _ _ _ (omega arith) (omega arith) c.loop-i.invariant.2
+returns c = twice_none c.args.points.now (λ j l. c.loop-i.invariant.1 j (omega arith))
 
-pub returns-then-seen-x-ne0 : goal.returns-then-seen-x-ne0
-unfolding first_twice
-returns-then-seen-x-ne0 c = found_least _ _ _ (omega arith) c.loop-i.invariant.2 (twice_here _ _ _ c.loop-i.invariant.1 c.if-seen-x-ne0.true)
+pub returns-then-seen-from : goal.returns-then-seen-from
+returns-then-seen-from c =
+    let low : get_or c.args.points.now c.loop-i.i 0 < 256 = omega (arith, c.type_inv.points c.loop-i.i) in
+    twice_found c.args.points.now _ c.loop-i-test.true c.loop-i.invariant.1 (twice_here _ _ _ c.loop-i.invariant.0 low (rw c.from.ensures at c.if-seen-from.true))

@@ -1,50 +1,48 @@
 -- `decode::seek` meets its contract: what the pair's quotient is gets measured, and that alone is trusted.
-use Prim.Native.Nat.{◌+◌, ◌/◌, ◌≤◌}
-use mathlib.Core.Path.{refl, sym}
+use Prim.Native.Nat.{◌≤◌}
+use mathlib.Core.Path.{sym}
 use native.Mathlib.Omega.{arith}
-use lib.ListN.{length, take}
+use lib.ListN.{length}
 use lib.Seq.{length-take-le}
 use Rattle.defs.specs.Pair.{IsPair}
 use Rattle.code.specs.Checked.{points_of}
 use Rattle.pair.proofs.Outcome.{enough, short}
-use Rattle.decode.proofs.Search.{radius_short, no_pair_lem, pair_none, pair_found, dividing, rows_ready, too_far, near_enough}
+use Rattle.decode.proofs.Search.{no_pair, dividing, rows_ready, too_far, near_enough}
 use Rattle.decode.proofs.seek.Goals as goal
-use Rattle.decode.proofs.seek.Goals.{After-row_of-sent, In_default}
+use Rattle.decode.proofs.seek.Goals.{After-row_of-sent, After-second}
 
--- where it has found one
-pair : (c : In_default) → let k = c.args.code in
-    let w = c.args.row.now in
-    let a = c.find_pair-paired.result in
-    IsPair k.m k.r k.k (points_of k) w (take ((length w + k.k) / 2) a.q0) (take (c.radius-reach.result + 1) a.q1)
-pair c = pair_found c.requires.code c.requires.row _ c.in_default.is c.find_pair-paired.ensures _ _ refl c.radius-reach.ensures
+-- where its two polynomials are handed on
+pair : (c : After-second) → let k = c.args.code.now in IsPair k.m k.r k.k (points_of k) c.args.row.now c.first.result.now c.second.result.now
+pair c = rw (c.first.ensures, c.second.ensures) c.in_ok-pair.ensures
 
 -- where the quotient's row is made
 row_fits : (c : After-row_of-sent) → length c.args.row.now ≤ length c.row_of-sent.result
-row_fits c = omega (arith, short c.requires.code c.requires.row, c.row_of-sent.ensures.long)
-
-pub quotient-message-requires : goal.quotient-message-requires
-quotient-message-requires c = dividing c.requires.code c.requires.row _ _ (pair (goal.at.quotient-message-requires c).In_default)
+row_fits c = omega (arith, short c.requires, c.row_of-sent.ensures.long)
 
 pub radius-reach-requires : goal.radius-reach-requires
-radius-reach-requires c = enough c.requires.code c.requires.row
+radius-reach-requires c = enough c.requires
 
-pub returns : goal.returns
-returns c =
-    near_enough c.requires.code c.requires.row _ _ (pair (goal.at.returns c).In_default) _ c.quotient-message.ensures _ c.row_of-sent.ensures _ c.row_distance-d.ensures _ c.radius-reach.ensures (omega (arith, c.if-reach-d.false))
+pub returns-in_err-pair : goal.returns-in_err-pair
+returns-in_err-pair c = rw c.from_residual.ensures (no_pair c.requires c.in_err-pair.ensures)
 
-pub returns-in-Refused : goal.returns-in-Refused
-returns-in-Refused c = no_pair_lem c.requires.code c.requires.row _ c.nothing.ensures (pair_none c.requires.code c.requires.row _ _ c.in-Refused.is c.find_pair-paired.ensures)
-
-pub returns-then-reach-d : goal.returns-then-reach-d
-returns-then-reach-d c =
-    too_far c.requires.code c.requires.row _ _ (pair (goal.at.returns-then-reach-d c).In_default) _ c.quotient-message.ensures _ c.row_of-sent.ensures _ c.row_distance-d.ensures _ c.radius-reach.ensures
-    (omega (arith, c.if-reach-d.true, radius_short c.requires.code c.requires.row _ c.radius-reach.ensures)) _ c.nothing-then-reach-d.ensures
-
-pub row_distance-d-requires : goal.row_distance-d-requires
-row_distance-d-requires c = rows_ready c.requires.code c.requires.row _ _ c.row_of-sent.ensures
-
-pub slice_bounds-row_distance-end : goal.slice_bounds-row_distance-end
-slice_bounds-row_distance-end c = sym (length-take-le _ _ (row_fits (goal.at.slice_bounds-row_distance-end c).After-row_of-sent))
+pub quotient-message-requires : goal.quotient-message-requires
+quotient-message-requires c = rw c.field_of.ensures (dividing c.requires _ _ (pair (goal.at.quotient-message-requires c).After-second))
 
 pub slice_bounds-sent-end : goal.slice_bounds-sent-end
 slice_bounds-sent-end c = row_fits (goal.at.slice_bounds-sent-end c).After-row_of-sent
+
+pub slice_bounds-rows-end : goal.slice_bounds-rows-end
+slice_bounds-rows-end c = sym (length-take-le _ _ (row_fits (goal.at.slice_bounds-rows-end c).After-row_of-sent))
+
+pub invariant_of-rows : goal.invariant_of-rows
+invariant_of-rows c = record { chunks = rows_ready c.requires _ _ c.row_of-sent.ensures }
+
+pub returns-then-reach-d : goal.returns-then-reach-d
+returns-then-reach-d c =
+    too_far c.requires _ _ (pair (goal.at.returns-then-reach-d c).After-second) _ (rw c.field_of.ensures at c.quotient-message.ensures) _ c.row_of-sent.ensures _ c.distance-d.ensures _
+    c.radius-reach.ensures (omega (arith, c.if-reach-d.true))
+
+pub returns : goal.returns
+returns c =
+    near_enough c.requires _ _ (pair (goal.at.returns c).After-second) _ (rw c.field_of.ensures at c.quotient-message.ensures) _ c.row_of-sent.ensures _ c.distance-d.ensures _
+    c.radius-reach.ensures (omega (arith, c.if-reach-d.false))

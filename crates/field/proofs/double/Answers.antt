@@ -4,5 +4,4 @@ use Rattle.field.proofs.Doubling.{next_copy}
 use Rattle.field.proofs.double.Goals as goal
 
 pub loop-j-preserved : goal.loop-j-preserved
-loop-j-preserved c = let i = c.loop-j.invariant.1 in
-    (omega arith, next_copy _ _ _ _ _ (omega arith) c.loop-j-test.true i)
+loop-j-preserved c = next_copy _ _ _ _ _ (omega arith) c.loop-j-test.true c.loop-j.invariant

@@ -1,17 +1,11 @@
--- `put_all` writes each number behind a space; after i turns the first i are written.
+-- `put_all` writes each number behind a space; those from an index on are left.
+use mathlib.Core.Path.{ap}
 use native.Mathlib.Omega.{arith}
+use lib.ListN.{length}
+use Rattle.std.proofs.lemmas.Grind.{common_steps}
 use Rattle.defs.specs.Line.{spaced}
-use Rattle.line.proofs.Spaced.{spaced_room}
-use Rattle.text.proofs.Pieces.{wrote_none}
-use Rattle.line.proofs.Pieces.{wrote_more}
 use Rattle.line.proofs.put_all.Goals as goal
 
-pub loop-i-init : goal.loop-i-init
+pub put_spaced-requires : goal.put_spaced-requires
 unfolding spaced
-loop-i-init c = (omega arith, wrote_none _ _)
-
-pub loop-i-preserved : goal.loop-i-preserved
-loop-i-preserved c = (omega arith, wrote_more _ c.loop-i.i c.loop-i-test.true c.loop-i.invariant.1 c.put_spaced-end.ensures)
-
-pub put_spaced-end-requires : goal.put_spaced-end-requires
-put_spaced-end-requires c = omega (arith, spaced_room c.args.s.now c.loop-i.i (omega arith))
+put_spaced-requires c = grind (arith, common_steps, ap length c.loop-x.invariant)

@@ -1,20 +1,23 @@
 -- `pair::add_products` meets its contract.
-use Prim.Native.Nat.{◌+◌}
-use mathlib.Core.Path.{ap, ap₂}
+use Prim.Native.Nat.{ℕ}
+use mathlib.Core.Path.{◌≡◌, ap, ◌∙◌}
+use mathlib.Core.List.{List}
 use native.Mathlib.Omega.{arith}
+use lib.ListN.{get_or}
 use Rattle.defs.specs.Field.{add}
-use Rattle.pair.specs.Fill.{look}
-use Rattle.pair.proofs.Spans.{span_more, span_all, span_before, span_behind}
+use Rattle.theory.proofs.Fill.{filled_none, filled_next}
+use Rattle.pair.proofs.Spans.{filled_all, filled_rest}
 use Rattle.pair.proofs.add_products.Goals as goal
+
+pub loop-a-init : goal.loop-a-init
+loop-a-init c = filled_none _ 0 _
 
 pub loop-a-preserved : goal.loop-a-preserved
 unfolding add
-loop-a-preserved c = let S = c.loop-a.invariant.1 in (
-  omega arith,
-  span_more S (omega (arith, c.requires.bytes.size)) _
-      (ap₂ add (span_behind S (c.args.to + c.loop-a.a) (omega arith))
-      (ap (look c.args.products.now) (span_before S (c.args.from + c.loop-a.a) (omega arith)))),
-)
+loop-a-preserved c =
+    let a = c.loop-a.a in
+    let e : get_or c.loop-a.to a 0 ≡ get_or c.args.to.now a 0 = ap (λ (s : List ℕ). get_or s a 0) c.loop-a.invariant ∙ filled_rest _ _ a a (omega arith) in
+    rw (e, c.from.ensures, c.loop-a.invariant) (filled_next _ _ a (omega arith))
 
 pub returns : goal.returns
-returns c = span_all c.loop-a.invariant.0 c.loop-a-test.false c.loop-a.invariant.1
+returns c = c.loop-a.invariant ∙ filled_all _ _ _ (omega arith)

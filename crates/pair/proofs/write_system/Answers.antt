@@ -1,49 +1,61 @@
 -- `pair::write_system` meets its contract.
-use Prim.Native.Nat.{◌+◌, ◌*◌, ◌≤◌}
-use mathlib.Core.Path.{◌∙◌}
+use Prim.Native.Nat.{◌+◌, ◌*◌, ◌-◌, ◌≤◌}
+use mathlib.Core.Path.{◌≡◌, refl, ◌∙◌}
+use native.Mathlib.Nat.{suc-mul}
 use native.Mathlib.Omega.{arith}
-use lib.ListN.{length}
-use Rattle.theory.specs.Limits.{Numbers}
+use lib.ListN.{length, take, drop, length-take, length-drop}
+use Rattle.defs.specs.Limits.{longest}
 use Rattle.theory.proofs.Order.{eq_lt}
+use Rattle.code.proofs.Outcome.{is_code}
 use Rattle.code.proofs.Known.{code_numbers, code_symbols, code_point}
-use Rattle.pair.proofs.Systems.{zero_shape, chunk_fits, chunk_next, chunk_symbols, system_none, system_more}
+use Rattle.solve.specs.Table.{stride}
+use Rattle.pair.proofs.Spans.{span_part, lent_behind}
+use Rattle.pair.proofs.Systems.{zero_shape, chunk_fits, system_none, system_more, system_all}
 use Rattle.pair.proofs.write_system.Goals as goal
 use Rattle.pair.proofs.write_system.Goals.{In-loop-i}
 
--- what the code says, and where a turn's chunk ends
-numbers : (c : In-loop-i) → Numbers c.args.code.m c.args.code.r c.args.code.k c.args.code.count
-numbers c = code_numbers c.requires.code
+-- a turn's chunk ends within the row, and so its rows end within the table
+ends : (c : In-loop-i) → (c.loop-i.i * c.args.code.now.r + c.args.code.now.r ≤ length c.args.row.now) × (length c.args.row.now ≤ longest)
+ends c =
+    let n = code_numbers (is_code c.args.code.now) in
+    (omega (arith, chunk_fits c.args.code.now.r c.loop-i.i c.args.code.now.count c.loop-i-test.true, c.requires.row.size), omega (arith, n.row_top, c.requires.row.size))
 
-ends : (c : In-loop-i) → c.loop-i.p + c.args.code.r ≤ c.args.code.r * c.args.code.count
-ends c = chunk_fits _ _ _ _ c.loop-i.invariant.1 c.loop-i-test.true
-
-pub chunk_of-chunk-requires : goal.chunk_of-chunk-requires
-chunk_of-chunk-requires c =
-    let within : c.loop-i.p + c.args.code.r ≤ length c.args.row.now = omega (arith, (ends (goal.at.chunk_of-chunk-requires c).In-loop-i), c.requires.row.size) in
-    ((numbers (goal.at.chunk_of-chunk-requires c).In-loop-i).r_top, within)
+chunk_long : (c : In-loop-i) → let at = c.loop-i.i * c.args.code.now.r in length (take (at + c.args.code.now.r - at) (drop at c.args.row.now)) ≡ c.args.code.now.r
+chunk_long c = simp (length-take, length-drop) (omega (arith, ends c))
 
 pub loop-i-init : goal.loop-i-init
-loop-i-init c = (omega arith, omega arith, system_none (zero_shape _ (code_numbers c.requires.code).width c.requires.t_len.0 c.requires.by_index), λ k l. c.requires.by_index k)
+loop-i-init c = (system_none (zero_shape _ c.field_of-field.result.known c.told-t c.requires.zeros), λ k l. c.requires.zeros k)
 
 pub loop-i-preserved : goal.loop-i-preserved
-loop-i-preserved c = let al = c.loop-i in
-    let C = c.write_chunk.ensures in (
-      omega arith,
-      chunk_next _ _ _ al.invariant.1,
-      system_more c.requires.t_len.2 al.invariant.1 (code_point c.requires.code al.i c.loop-i-test.true) c.chunk_of-chunk.ensures al.invariant.2 C,
-      λ k l. C.after k (omega arith) ∙ al.invariant.3 k (omega arith),
+loop-i-preserved c =
+    let C = c.write_chunk.ensures in
+    let here = (goal.at.loop-i-preserved c).In-loop-i in
+    let at = c.loop-i.i * c.args.code.now.r in
+    let n = (at + c.args.code.now.r) * stride - at * stride in
+    let S = span_part {t₀ = c.loop-i.t} {base = at * stride} {n = n} c.write_chunk.new.rows (omega (arith, ends here, c.loop-i.invariant.0.shape.size)) refl refl
+    (omega (arith, C.size, chunk_long here)) (λ a l. refl) in (
+      system_more _ c.args.sizes.fit (code_point (is_code c.args.code.now) c.loop-i.i c.loop-i-test.true) (chunk_long here) (omega arith)
+          (λ a l. lent_behind _ _ _ a refl (omega arith)) c.loop-i.invariant.0 C S,
+      λ k l. S.outside k (λ a i e. omega (arith, suc-mul c.loop-i.i c.args.code.now.r)) ∙ c.loop-i.invariant.1 k (omega (arith, suc-mul c.loop-i.i c.args.code.now.r)),
     )
 
-pub write_chunk-requires-clause-point_bound : goal.write_chunk-requires-clause-point_bound
-write_chunk-requires-clause-point_bound c =
-    let al = c.loop-i in (
-      eq_lt (code_point c.requires.code al.i c.loop-i-test.true) (code_symbols c.requires.code al.i),
-      (numbers (goal.at.write_chunk-requires-clause-point_bound c).In-loop-i).r_pos,
-      (numbers (goal.at.write_chunk-requires-clause-point_bound c).In-loop-i).r_top,
-      omega (arith, (ends (goal.at.write_chunk-requires-clause-point_bound c).In-loop-i), (numbers (goal.at.write_chunk-requires-clause-point_bound c).In-loop-i).row_top),
-      c.requires.t_len.1,
-      c.requires.t_len.2,
-    )
+pub returns : goal.returns
+returns c = rw c.field_of-field.ensures at (system_all {n = c.args.code.now.count} (omega arith) c.loop-i.invariant.0)
 
-pub write_chunk-requires-clause-symbols : goal.write_chunk-requires-clause-symbols
-write_chunk-requires-clause-symbols c = let al = c.loop-i in chunk_symbols _ _ _ c.args.row.now c.chunk_of-chunk.ensures c.requires.row.symbols
+pub overflow_mul-rows : goal.overflow_mul-rows
+overflow_mul-rows c = omega (arith, ends c)
+
+pub overflow_mul-rows-in-loop-i : goal.overflow_mul-rows-in-loop-i
+overflow_mul-rows-in-loop-i c = omega (arith, ends c)
+
+pub slice_bounds-rows-end : goal.slice_bounds-rows-end
+slice_bounds-rows-end c = omega (arith, ends (goal.at.slice_bounds-rows-end c).In-loop-i)
+
+pub write_chunk-requires-clause-depths : goal.write_chunk-requires-clause-depths
+write_chunk-requires-clause-depths c =
+    omega (arith, (code_numbers (is_code c.args.code.now)).r_pos, chunk_long (goal.at.write_chunk-requires-clause-depths c).In-loop-i)
+
+pub write_chunk-requires-clause-point : goal.write_chunk-requires-clause-point
+write_chunk-requires-clause-point c =
+    let code = is_code c.args.code.now in
+    rw c.field_of-field.ensures (eq_lt (code_point code c.loop-i.i c.loop-i-test.true) (code_symbols code c.loop-i.i))

@@ -3,7 +3,4 @@ use Rattle.quotient.proofs.Division.{Going}
 use Rattle.quotient.proofs.quotient.Given as goal
 
 abbrev pub invariant-loop-at : goal.invariant-loop-at
-invariant-loop-at l = Going l.m l.k l.q0 l.q1 l.f l.rem l.at
-
-abbrev pub decreases-loop-at : goal.decreases-loop-at
-decreases-loop-at l = l.at
+invariant-loop-at l = Going l.fn.field.m l.k l.q0 l.q1 l.f l.rem l.at

@@ -1,10 +1,6 @@
 -- `quotient::take_off` meets its contract: the coefficients before i are taken off.
-use Prim.Native.Nat.{◌≤◌, ◌-◌}
 use Rattle.quotient.specs.Quotient.{TakenOff}
 use Rattle.quotient.proofs.take_off.Given as goal
 
 abbrev pub invariant-loop-i : goal.invariant-loop-i
-invariant-loop-i l = (l.i ≤ l.c) × TakenOff l.products l.q l.i l.at l.initial.rem l.rem
-
-abbrev pub decreases-loop-i : goal.decreases-loop-i
-decreases-loop-i l = l.c - l.i
+invariant-loop-i l = TakenOff l.products l.q l.i l.at l.initial.rem l.rem

@@ -1,12 +1,15 @@
 -- `roll_answer` meets its contract: the answer is that of the checks.
-use mathlib.Core.Path.{sym, ◌∙◌}
+use Rattle.std.proofs.Common.{rules, ◌≡◌, Err, sym, ◌∙◌}
 use Rattle.defs.specs.Refusal.{answer}
+use Rattle.theory.proofs.Verdict.{answer_done, answer_refused}
 use Rattle.roll.proofs.roll_answer.Goals as goal
 
 pub returns : goal.returns
 unfolding answer
-returns c = rw (sym c.check_roll-v.ensures ∙ c.in_default.is)
+returns c = rw (answer_done _ _ _ (sym c.first_end.ensures ∙ c.in_ok-first_end.was))
 
-pub returns-in-Refused : goal.returns-in-Refused
+pub returns-in_err-first_end : goal.returns-in_err-first_end
 unfolding answer
-returns-in-Refused c = rw (sym c.check_roll-v.ensures ∙ c.in-Refused.is)
+returns-in_err-first_end c =
+    let e : c.from_residual.result ≡ Err c.in_err-first_end.field-0.0 = search rules in
+    rw (e, answer_refused _ _ _ (sym c.first_end.ensures ∙ c.in_err-first_end.was))

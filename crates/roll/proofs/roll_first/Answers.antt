@@ -7,7 +7,7 @@ use Rattle.roll.proofs.Parts.{first_within, first_taken}
 use Rattle.roll.proofs.roll_first.Goals as goal
 
 pub returns : goal.returns
-returns c = ap (λ n. take n c.args.roll.now) c.first_size-n.ensures ∙ first_taken c.args.roll.now
+returns c = ap (λ n. take n c.args.roll.now) c.first_size.ensures ∙ first_taken c.args.roll.now
 
 pub slice_bounds-result-end : goal.slice_bounds-result-end
-slice_bounds-result-end c = sym (length-take-le _ _ (omega (arith, c.first_size-n.ensures, first_within c.args.roll.now)))
+slice_bounds-result-end c = sym (length-take-le _ _ (omega (arith, c.first_size.ensures, first_within c.args.roll.now)))

@@ -1,9 +1,9 @@
--- `print_slips` stays within its part, and each turn leaves less of it.
-use Rattle.std.proofs.Common.{◌-◌, ◌≤◌, length}
+-- Each turn of `print_slips` leaves less of its part.
+use Rattle.std.proofs.Common.{◌≤◌, length}
 use Rattle.rollread.proofs.print_slips.Given as goal
 
-abbrev pub invariant-loop-is_last : goal.invariant-loop-is_last
-invariant-loop-is_last g l = l.at ≤ length l.part
+abbrev pub invariant-loop-slip : goal.invariant-loop-slip
+invariant-loop-slip g l = length l.rest ≤ length l.part
 
-abbrev pub decreases-loop-is_last : goal.decreases-loop-is_last
-decreases-loop-is_last g l = length l.part - l.at
+abbrev pub decreases-loop-slip : goal.decreases-loop-slip
+decreases-loop-slip g l = length l.rest

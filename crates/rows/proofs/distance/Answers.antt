@@ -1,25 +1,31 @@
--- `distance` meets its contract: each way out by its lemma.
-use mathlib.Core.Path.{◌≡◌, sym, ◌∙◌}
-use native.Mathlib.Omega.{arith}
+-- `distance` meets its contract: rows whose lengths have passed are measured.
+use mathlib.Core.Path.{◌≡◌, refl, sym, ◌∙◌}
 use lib.ListN.{length}
-use Rattle.defs.specs.Encode.{distance_verdict}
-use Rattle.defs.specs.declared.Verdict.TheVariants.{Fine}
-use Rattle.rows.proofs.Outcome.{distance_refused, distance_done, depth_pos, distance_rows}
+use Rattle.std.proofs.Common.{rules, Err}
+use Rattle.defs.specs.Refusal.{fine, answer}
+use Rattle.defs.specs.Encode.{distance_verdict, distance_answer}
+use Rattle.rows.proofs.Outcome.{depth_pos, distance_rows}
 use Rattle.rows.proofs.distance.Goals as goal
-use Rattle.rows.proofs.distance.Goals.{In_default}
+use Rattle.rows.proofs.distance.Goals.{In_ok-check_lengths}
 
--- where they have passed
-fine : (c : In_default) → distance_verdict c.args.r (length c.args.a.now) (length c.args.b.now) ≡ Fine
-fine c = sym c.check_lengths-v.ensures ∙ c.in_default.is
+-- the lengths have passed
+passed : (c : In_ok-check_lengths) → distance_verdict c.args.r (length c.args.a.now) (length c.args.b.now) ≡ fine
+passed c = sym c.check_lengths.ensures ∙ c.in_ok-check_lengths.was
 
-pub nonzero_div-a : goal.nonzero_div-a
-nonzero_div-a c = omega (arith, depth_pos c.args.r c.args.a.now c.args.b.now (fine (goal.at.nonzero_div-a c).In_default))
+pub returns-in_err-check_lengths : goal.returns-in_err-check_lengths
+unfolding distance_answer answer
+returns-in_err-check_lengths c =
+    let e : c.from_residual.result ≡ Err c.in_err-check_lengths.field-0.0 = search rules in
+    let f : distance_verdict c.args.r (length c.args.a.now) (length c.args.b.now) ≡ Err c.in_err-check_lengths.field-0.0 =
+    sym c.check_lengths.ensures ∙ c.in_err-check_lengths.was in
+    rw (e, f) refl
+
+pub nonzero_div-count : goal.nonzero_div-count
+nonzero_div-count c = depth_pos _ c.args.a.now c.args.b.now (passed (goal.at.nonzero_div-count c).In_ok-check_lengths)
+
+pub invariant_of-rows : goal.invariant_of-rows
+invariant_of-rows c = record { chunks = distance_rows _ _ _ (passed (goal.at.invariant_of-rows c).In_ok-check_lengths) }
 
 pub returns : goal.returns
-returns c = distance_done c.args.r c.args.a.now c.args.b.now (fine (goal.at.returns c).In_default) _ c.row_distance.ensures
-
-pub returns-in-Refused : goal.returns-in-Refused
-returns-in-Refused c = distance_refused _ c.args.a.now c.args.b.now _ (sym c.check_lengths-v.ensures ∙ c.in-Refused.is)
-
-pub row_distance-requires : goal.row_distance-requires
-row_distance-requires c = distance_rows _ _ _ (fine (goal.at.row_distance-requires c).In_default)
+unfolding distance_answer answer
+returns c = rw (passed (goal.at.returns c).In_ok-check_lengths, c.distance.ensures) refl

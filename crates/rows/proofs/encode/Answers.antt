@@ -1,54 +1,50 @@
 -- `encode` meets its contract: each way out by its lemma.
-use mathlib.Core.Path.{◌≡◌, sym, ◌∙◌}
+use Prim.Native.Nat.{ℕ}
+use mathlib.Core.Path.{◌≡◌, ap, sym, ◌∙◌}
 use native.Mathlib.Omega.{arith}
-use Rattle.defs.specs.Limits.{longest, Inside, code_verdict}
+use Rattle.std.proofs.Common.{rules, Err}
+use Rattle.defs.specs.Limits.{Inside}
 use Rattle.defs.specs.Encode.{symbols_verdict}
-use Rattle.defs.specs.declared.Verdict.TheVariants.{Fine}
 use Rattle.theory.proofs.Limits.{inside_known}
-use Rattle.code.proofs.Outcome.{Passed, verdict_is, code_passed}
 use Rattle.rows.proofs.Outcome.{encode_refused, encode_message, encode_row, encode_symbol, encode_done, writable, same_row}
 use Rattle.rows.proofs.encode.Goals as goal
-use Rattle.rows.proofs.encode.Goals.{After-check_code-checked, In_default, In_default-s}
+use Rattle.rows.proofs.encode.Goals.{In_ok-code, After-check_symbols, then-message-k-via-then-message-k, then-message-k-via-else-message-k+then-row-r}
 
--- where the code has been checked
-verdict : (c : After-check_code-checked) → c.check_code-checked.result.verdict ≡ code_verdict longest c.args.m c.args.r c.args.k c.args.points.now
-verdict c = verdict_is _ _ _ _ _ c.check_code-checked.ensures
+-- the code has passed
+inside : (c : In_ok-code) → Inside c.args.m c.args.r c.args.k c.args.points.now
+inside c = sym c.in_ok-code.ensures.verdict
 
--- where the code has passed
-fine : (c : In_default) → Inside c.args.m c.args.r c.args.k c.args.points.now
-fine c = sym (verdict (goal.at.In_default c).After-check_code-checked) ∙ c.in_default.is
-
-passed : (c : In_default) → Passed c.args.m c.args.r c.args.k c.args.points.now c.check_code-checked.result.code
-passed c = code_passed _ _ _ _ _ c.check_code-checked.ensures (fine c)
-
--- where the symbols have passed
-symbols_fine : (c : In_default-s) → symbols_verdict c.args.m c.args.message.now ≡ Fine
-symbols_fine c = sym c.check_symbols-s.ensures ∙ c.in_default-s.is
-
-pub check_symbols-s-requires : goal.check_symbols-s-requires
-check_symbols-s-requires c = (inside_known _ _ _ _ (fine (goal.at.check_symbols-s-requires c).In_default)).numbers.width
+-- the symbols have been checked in its field
+checked : (c : After-check_symbols) → c.check_symbols.result ≡ symbols_verdict c.args.m c.args.message.now
+checked c = c.check_symbols.ensures ∙ ap (λ (n : ℕ). symbols_verdict n c.args.message.now) (c.field_of.ensures ∙ c.in_ok-code.ensures.code.m_is)
 
 pub overflow_mul-r : goal.overflow_mul-r
-overflow_mul-r c = omega (arith, (inside_known _ _ _ _ (fine (goal.at.overflow_mul-r c).In_default)).numbers.row_top)
+overflow_mul-r c = omega (arith, (inside_known _ _ _ _ (inside (goal.at.overflow_mul-r c).In_ok-code)).numbers.row_top)
 
-pub returns : goal.returns
-returns c =
-    encode_done _ _ _ _ _ _ (fine (goal.at.returns c).In_default) c.if-message-k.false c.if-row-r.false (symbols_fine (goal.at.returns c).In_default-s) _
-    (c.write_row.ensures ∙ same_row _ _ _ _ _ _ (passed (goal.at.returns c).In_default))
-
-pub returns-in-Refused : goal.returns-in-Refused
-returns-in-Refused c = encode_refused _ _ _ _ _ _ _ (sym (verdict (goal.at.returns-in-Refused c).After-check_code-checked) ∙ c.in-Refused.is)
-
-pub returns-in-Refused-s : goal.returns-in-Refused-s
-returns-in-Refused-s c =
-    encode_symbol _ _ _ _ _ _ (fine (goal.at.returns-in-Refused-s c).In_default) c.if-message-k.false c.if-row-r.false _ (sym c.check_symbols-s.ensures ∙ c.in-Refused-s.is)
+pub returns-in_err-code : goal.returns-in_err-code
+returns-in_err-code c =
+    let e : c.from_residual.result ≡ Err c.in_err-code.field-0.0 = search rules in
+    rw e (encode_refused _ _ _ _ _ _ _ (sym c.in_err-code.ensures.verdict))
 
 pub returns-then-message-k : goal.returns-then-message-k
-returns-then-message-k c = encode_message _ _ _ _ _ _ (fine (goal.at.returns-then-message-k c).In_default) c.if-message-k.true
+returns-then-message-k c = let i = inside (goal.at.returns-then-message-k c).In_ok-code in
+    elim c.then-message-k.branch [
+      | then-message-k-via-then-message-k w ↦ encode_message _ _ _ _ _ _ i w.if-message-k.true
+      | then-message-k-via-else-message-k+then-row-r w ↦ encode_row _ _ _ _ _ _ i w.if-message-k.false w.if-row-r.true
+    ]
 
-pub returns-then-row-r : goal.returns-then-row-r
-returns-then-row-r c = encode_row _ _ _ _ _ _ (fine (goal.at.returns-then-row-r c).In_default) c.if-message-k.false c.if-row-r.true
+pub returns-in_err-check_symbols : goal.returns-in_err-check_symbols
+returns-in_err-check_symbols c =
+    let e : c.from_residual-in_err-check_symbols.result ≡ Err c.in_err-check_symbols.field-0.0 = search rules in
+    rw e (encode_symbol _ _ _ _ _ _ (inside (goal.at.returns-in_err-check_symbols c).In_ok-code) c.if-message-k.false c.if-row-r.false _
+    (sym (checked (goal.at.returns-in_err-check_symbols c).After-check_symbols) ∙ c.in_err-check_symbols.was))
 
 pub write_row-requires : goal.write_row-requires
 write_row-requires c =
-    writable _ _ _ _ _ _ (passed (goal.at.write_row-requires c).In_default) _ c.if-message-k.false c.if-row-r.false (symbols_fine (goal.at.write_row-requires c).In_default-s)
+    writable _ _ _ _ _ _ c.in_ok-code.ensures.code _ c.if-message-k.false c.if-row-r.false
+    (sym (checked (goal.at.write_row-requires c).After-check_symbols) ∙ c.in_ok-check_symbols.was)
+
+pub returns : goal.returns
+returns c =
+    encode_done _ _ _ _ _ _ (inside (goal.at.returns c).In_ok-code) c.if-message-k.false c.if-row-r.false
+    (sym (checked (goal.at.returns c).After-check_symbols) ∙ c.in_ok-check_symbols.was) _ (c.write_row.ensures ∙ same_row _ _ _ _ _ _ c.in_ok-code.ensures.code)

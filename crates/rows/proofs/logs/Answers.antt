@@ -6,9 +6,8 @@ use Rattle.rows.proofs.logs.Goals as goal
 
 pub loop-i-preserved : goal.loop-i-preserved
 loop-i-preserved c =
-    let low : c.loop-i.i < 2 ^ c.args.m - 1 = omega (arith, c.field_size-order.ensures) in
-    let given = c.requires in
-    logs_more _ given.width _ _ _ c.loop-i.invariant low (given.powers_of.at _ (omega (arith, low)))
+    let low : c.loop-i.i < 2 ^ c.args.field.m - 1 = omega (arith, c.size-i-end.ensures) in
+    logs_more _ c.args.field.known _ _ _ c.loop-i.invariant low (omega (arith, c.requires.at c.loop-i.i (omega (arith, low))))
 
 pub returns : goal.returns
-returns c = logs_last _ c.requires.width _ _ c.loop-i.invariant (omega (arith, c.field_size-order.ensures))
+returns c = logs_last _ c.args.field.known _ _ c.loop-i.invariant (omega (arith, c.size-i-end.ensures))

@@ -1,24 +1,34 @@
--- `check_lines` meets its contract: the lines before the place at have passed.
-use Prim.Native.Nat.{◌+◌}
-use mathlib.Core.Path.{◌≡◌, sym, ◌∙◌}
-use lib.ListN.{drop}
-use Rattle.defs.specs.Levels.{level_verdict}
-use Rattle.defs.specs.declared.Verdict.TheVariants.{Fine}
-use Rattle.levels.specs.Lines.{head_line}
+-- `check_lines` meets its contract: the lines before what is left have passed.
+use Prim.Native.Nat.{◌<◌}
+use mathlib.Core.Path.{◌≡◌, sym, ap}
+use native.Mathlib.Omega.{arith}
+use lib.ListN.{length}
+use Rattle.std.proofs.Common.{rules, Err}
+use Rattle.std.proofs.lemmas.Grind.{common_steps}
+use Rattle.levels.proofs.FirstLine.{behind_short}
 use Rattle.levels.proofs.Checking.{reached_bad, reached_more, reached_miscounted, reached_last}
 use Rattle.levels.proofs.lines.check_lines.Goals as goal
+use Rattle.levels.proofs.lines.check_lines.Goals.{In-loop-rest}
 
-pub loop-at-preserved : goal.loop-at-preserved
-loop-at-preserved c =
-    let fine : level_verdict (c.args.top + 1) c.loop-at.line (head_line (drop c.loop-at.at c.args.text.now)) ≡ Fine = sym c.check_line-judged.ensures.verdict_is ∙ c.in_default.is in
-    let next = c.check_line-judged.ensures.next_is c.in_default.is in
-    reached_more _ _ _ _ c.loop-at.invariant c.loop-at-test.true _ fine c.check_line-judged.ensures.within next.0 next.1
+some : (c : In-loop-rest) → 0 < length c.loop-rest.rest.now
+some c = grind (arith, common_steps)
+
+pub loop-rest-preserved : goal.loop-rest-preserved
+loop-rest-preserved c =
+    reached_more _ _ _ _ c.loop-rest.invariant (some (goal.at.loop-rest-preserved c).In-loop-rest) _ (sym c.in_ok-rest.ensures.verdict) c.in_ok-rest.ensures.behind
+
+pub loop-rest-smaller : goal.loop-rest-smaller
+loop-rest-smaller c =
+    omega (arith, ap length c.in_ok-rest.ensures.behind, behind_short c.loop-rest.rest.now (some (goal.at.loop-rest-smaller c).In-loop-rest))
 
 pub returns : goal.returns
-returns c = reached_last _ _ _ _ c.loop-at.invariant c.loop-at-test.false _ c.if-line-count.false
+returns c = rw (← c.highest-top.ensures) (reached_last _ _ _ _ c.loop-rest.invariant (grind (arith, common_steps)) _ c.if-line-count.false)
 
-pub returns-in-Refused : goal.returns-in-Refused
-returns-in-Refused c = reached_bad _ _ _ _ c.loop-at.invariant c.loop-at-test.true _ _ (sym c.check_line-judged.ensures.verdict_is ∙ c.in-Refused.is)
+pub returns-in_err-rest : goal.returns-in_err-rest
+returns-in_err-rest c =
+    let e : c.from_residual.result ≡ Err c.in_err-rest.field-0.0 = search rules in
+    rw (e, ← c.highest-top.ensures)
+    (reached_bad _ _ _ _ c.loop-rest.invariant (some (goal.at.returns-in_err-rest c).In-loop-rest) _ _ (sym c.in_err-rest.ensures.verdict))
 
 pub returns-then-line-count : goal.returns-then-line-count
-returns-then-line-count c = reached_miscounted _ _ _ _ c.loop-at.invariant c.loop-at-test.false _ c.if-line-count.true
+returns-then-line-count c = rw (← c.highest-top.ensures) (reached_miscounted _ _ _ _ c.loop-rest.invariant (grind (arith, common_steps)) _ c.if-line-count.true)

@@ -1,36 +1,55 @@
--- `slip::read::slip_read` meets its contract: what passes the checks is sound and has room.
-use mathlib.Core.Path.{◌≡◌, sym, ◌∙◌}
-use native.Mathlib.Omega.{arith}
-use lib.ListN.{length}
+-- `slip::read::slip_read` meets its contract: what passes the checks has room, and is read.
+use Rattle.std.proofs.Common.{rules, ◌≡◌, ◌≤◌, ◌*◌, length, take, length-take-le, sym, ◌∙◌, arith, Err}
+use Rattle.defs.specs.Refusal.{fine}
+use Rattle.defs.specs.Slip.{points_in, row_in, symbols_in}
 use Rattle.defs.specs.Read.{read_verdict}
-use Rattle.defs.specs.declared.Verdict.TheVariants.{Fine}
-use Rattle.slip.proofs.Reader.{Sound, sound, holds, row_size, reading_done, points_read, row_read, read_checked, read_room, read_refused, read_done}
+use Rattle.slip.proofs.Front.{symbols_front}
+use Rattle.slip.proofs.Reader.{head_first, read_head, read_room, row_is, read_refused, read_done}
 use Rattle.slip.proofs.read.slip_read.Goals as goal
-use Rattle.slip.proofs.read.slip_read.Goals.{In_default}
+use Rattle.slip.proofs.read.slip_read.Goals.{In_ok-check}
 
 -- where the checks are passed
-fine : (c : In_default) → read_verdict c.args.bytes.now (length c.args.points.now) (length c.args.row.now) ≡ Fine
-fine c = sym c.check_read-v.ensures ∙ c.in_default.is
+passed : (c : In_ok-check) → read_verdict c.args.bytes.now (length c.args.points.now) (length c.args.row.now) ≡ fine
+passed c = rw c.in_ok-slip.ensures.reader at (sym c.check.ensures ∙ c.in_ok-check.was)
 
-slip : (c : In_default) → Sound c.args.bytes.now
-slip c = sound c.args.bytes.now (read_checked c.args.bytes.now _ _ (fine c))
+-- there is room for the points and for the row
+points_room : (c : In_ok-check) → c.in_ok-slip.slip.count ≤ length c.args.points.now
+points_room c = rw (c.in_ok-slip.slip.heads.count_is, c.in_ok-slip.ensures.reader) (read_room _ _ _ (passed c)).0
 
-pub overflow_mul-n : goal.overflow_mul-n
-overflow_mul-n c = omega (arith, row_size _ _ c.head_of-head.ensures, (slip (goal.at.overflow_mul-n c).In_default).numbers.row_top)
+row_room : (c : In_ok-check) → c.in_ok-slip.slip.r * c.in_ok-slip.slip.count ≤ length c.args.row.now
+row_room c = rw (row_is c.in_ok-slip.slip, c.in_ok-slip.ensures.reader) (read_room _ _ _ (passed c)).1
+
+pub returns-in_err-slip : goal.returns-in_err-slip
+returns-in_err-slip c =
+    let e : c.from_residual.result ≡ Err c.in_err-slip.field-0.0 = search rules in
+    rw e (read_refused _ _ _ _ (sym (read_head _ _ _ _ (sym (head_first _ _ (sym c.in_err-slip.ensures.verdict))))))
+
+pub returns-in_err-check : goal.returns-in_err-check
+returns-in_err-check c =
+    let e : c.from_residual-in_err-check.result ≡ Err c.in_err-check.field-0.0 = search rules in
+    rw e (read_refused _ _ _ _ (rw c.in_ok-slip.ensures.reader at (sym c.check.ensures ∙ c.in_err-check.was)))
+
+pub slice_bounds-take-end : goal.slice_bounds-take-end
+slice_bounds-take-end c = points_room (goal.at.slice_bounds-take-end c).In_ok-check
+
+pub slice_bounds-take-end-2 : goal.slice_bounds-take-end-2
+slice_bounds-take-end-2 c = sym (length-take-le c.in_ok-slip.slip.count c.args.points.now (points_room (goal.at.slice_bounds-take-end-2 c).In_ok-check))
+
+pub slice_bounds-take-end-3 : goal.slice_bounds-take-end-3
+slice_bounds-take-end-3 c = omega (arith, row_room (goal.at.slice_bounds-take-end-3 c).In_ok-check, c.row_len.ensures)
+
+pub slice_bounds-take-end-4 : goal.slice_bounds-take-end-4
+slice_bounds-take-end-4 c =
+    sym (length-take-le c.row_len.result c.args.row.now (omega (arith, row_room (goal.at.slice_bounds-take-end-4 c).In_ok-check, c.row_len.ensures)))
 
 pub returns : goal.returns
+unfolding points_in row_in
 returns c =
-    let h = c.head_of-head.ensures in
-    read_done _ _ _ (fine (goal.at.returns c).In_default) _ (reading_done _ _ h) _ _ (points_read _ _ h _ _ c.take_symbols.ensures) (row_read _ _ h _ _ c.take_symbols-2.ensures)
-
-pub returns-in-Refused : goal.returns-in-Refused
-returns-in-Refused c = read_refused _ _ _ _ _ (sym c.check_read-v.ensures ∙ c.in-Refused.is) c.refused.ensures
-
-pub take_symbols-requires : goal.take_symbols-requires
-take_symbols-requires c =
-    (holds c.args.bytes.now (slip (goal.at.take_symbols-requires c).In_default) _ _ _ c.head_of-head.ensures (omega (arith, c.head_of-head.ensures.count_is)), omega (arith, c.head_of-head.ensures.count_is, (read_room _ _ _ (fine (goal.at.take_symbols-requires c).In_default)).0))
-
-pub take_symbols-requires-2 : goal.take_symbols-requires-2
-take_symbols-requires-2 c =
-    let n = row_size _ _ c.head_of-head.ensures in
-    (holds c.args.bytes.now (slip (goal.at.take_symbols-requires-2 c).In_default) _ _ _ c.head_of-head.ensures (omega (arith, c.head_of-head.ensures.count_is, n)), omega (arith, n, (read_room _ _ _ (fine (goal.at.take_symbols-requires-2 c).In_default)).1))
+    let s = c.in_ok-slip.slip in
+    let same = c.in_ok-slip.ensures.reader in
+    let n : c.row_len.result ≡ s.r * s.count = c.row_len.ensures in
+    let points : c.take.new.out ≡ symbols_in s.bytes.now 0 (length (take s.count c.args.points.now)) = c.take.ensures in
+    let row : c.take-2.new.out ≡ symbols_in s.bytes.now s.count (length (take c.row_len.result c.args.row.now)) = c.take-2.ensures in
+    read_done _ _ _ (passed (goal.at.returns c).In_ok-check) _ (rw same at c.numbers.ensures) _ _
+    (symbols_front _ _ _ _ _ (points_room (goal.at.returns c).In_ok-check) points ∙ rw (s.heads.count_is, same))
+    (symbols_front _ _ _ _ _ (omega (arith, row_room (goal.at.returns c).In_ok-check, n)) row ∙ rw (n, row_is s, s.heads.count_is, same))

@@ -1,56 +1,108 @@
--- `slip::write::slip_write` meets its contract: each way out by its lemma.
-use Prim.Native.Nat.{ℕ, ◌+◌, ◌*◌, ◌≤◌}
-use mathlib.Core.Path.{◌≡◌, ap, sym, ◌∙◌}
-use native.Mathlib.Omega.{arith}
-use lib.ListN.{length}
+-- `slip::write::slip_write` meets its contract: each way out by its lemma, and what passes the checks is written.
+use Rattle.std.proofs.Common.{rules, ◌≡◌, ◌+◌, true, length, sym, ◌∙◌, arith, Err}
 use Rattle.defs.specs.Field.{Width}
-use Rattle.defs.specs.Limits.{longest}
-use Rattle.defs.specs.Slip.{layout_of, slip_size}
+use Rattle.defs.specs.Refusal.{fine}
+use Rattle.defs.specs.Limits.{numbers_verdict, Within}
+use Rattle.defs.specs.Slip.{is_edition, layout_of, slip_size}
 use Rattle.defs.specs.Write.{write_verdict}
-use Rattle.defs.specs.declared.Layout.{Layout}
-use Rattle.defs.specs.declared.Verdict.TheVariants.{Fine}
 use Rattle.theory.proofs.Width.{width_top}
-use Rattle.slip.proofs.Layouts.{laid, laid_by}
-use Rattle.slip.proofs.Writer.{within_width, Writable, writable, few, written_top, written_refused, written_done}
+use Rattle.slip.proofs.Layouts.{laid, known_edition}
+use Rattle.slip.proofs.Writer.{within_limits, within_width, few, refused_edition, refused_numbers, refused_code, code_fine, refused_row, refused_size, by_symbols, writable, within_fits, written_refused, written_done}
 use Rattle.slip.proofs.write.slip_write.Goals as goal
-use Rattle.slip.proofs.write.slip_write.Goals.{After-slip_size-size, In_default}
+use Rattle.slip.proofs.write.slip_write.Goals.{After-layout-layout, After-check_numbers, After-slip_size, In-Some, In_ok-check_code, In_ok-check_symbols}
 
--- where the checks found nothing
-fine : (c : In_default) → write_verdict c.args.edition c.args.m c.args.r c.args.k c.args.points.now c.args.row.now (length c.args.bytes.now) ≡ Fine
-fine c = sym c.check_write-v.ensures ∙ c.in_default.is
+-- where the edition is known, and its layout
+known : (c : In-Some) → is_edition c.args.edition ≡ true
+known c = rw c.in-Some.ensures at (known_edition c.in-Some.edition)
 
-taken : (c : In_default) → Writable c.args.edition c.args.m c.args.r c.args.k c.args.points.now c.args.row.now (length c.args.bytes.now)
-taken c = writable _ _ _ _ _ _ _ (fine c)
+layout_is : (c : After-layout-layout) → c.layout-layout.result ≡ layout_of c.args.edition
+layout_is c = rw c.in-Some.ensures at c.layout-layout.ensures.value
 
--- where the slip's size is known
-abbrev symbols : (c : After-slip_size-size) → ℕ
-symbols c = length c.args.points.now + length c.args.row.now
+-- what the check of the numbers found
+numbers_are : (c : After-check_numbers) → numbers_verdict (layout_of c.args.edition).top c.args.m c.args.r c.args.k (length c.args.points.now) ≡ c.check_numbers.result
+numbers_are c =
+    let e = layout_is (goal.at.After-check_numbers c).After-layout-layout in
+    rw e at (sym c.check_numbers.ensures)
 
-size_is : (c : After-slip_size-size) → c.slip_size-size.result ≡ slip_size (layout_of c.args.edition) c.args.m (symbols c)
-size_is c = c.slip_size-size.ensures ∙ ap (λ (L : Layout). slip_size L c.args.m (symbols c)) c.layout_of-layout.ensures
+-- where the code is inside the limits
+within : (c : In_ok-check_code) → Within (layout_of c.args.edition).top c.args.m c.args.r c.args.k c.args.points.now
+within c =
+    code_fine _ _ _ _ _ c.args.row.now (length c.args.bytes.now) (known (goal.at.In_ok-check_code c).In-Some)
+    (numbers_are (goal.at.In_ok-check_code c).After-check_numbers ∙ c.in_ok-check_numbers.was) (sym c.in_ok-check_code.ensures.verdict)
 
-pub fill_slip-requires-clause-laid : goal.fill_slip-requires-clause-laid
-fill_slip-requires-clause-laid c =
-    let e = (size_is (goal.at.fill_slip-requires-clause-laid c).After-slip_size-size) in
-    (laid_by _ _ c.layout_of-layout.ensures, rw c.layout_of-layout.ensures (taken (goal.at.fill_slip-requires-clause-laid c).In_default).within, (taken (goal.at.fill_slip-requires-clause-laid c).In_default).symbols)
+width : (c : In_ok-check_code) → Width c.args.m
+width c = within_width _ (laid c.args.edition) _ _ _ _ (within c)
 
-pub fill_slip-requires-clause-size_value : goal.fill_slip-requires-clause-size_value
-fill_slip-requires-clause-size_value c =
-    let e = (size_is (goal.at.fill_slip-requires-clause-size_value c).After-slip_size-size) in (
-      c.slip_size-size.ensures,
-      omega (arith, e, written_top _ _ _ _ _ _ _ (taken (goal.at.fill_slip-requires-clause-size_value c).In_default)),
-      omega (arith, e, (taken (goal.at.fill_slip-requires-clause-size_value c).In_default).room),
-    )
+size_is : (c : After-slip_size) → c.slip_size.result ≡ slip_size (layout_of c.args.edition) c.args.m (length c.args.points.now + length c.args.row.now)
+size_is c = rw c.in-Some.ensures at c.slip_size.ensures
+
+-- where all is fine
+passed : (c : In_ok-check_symbols) → write_verdict c.args.edition c.args.m c.args.r c.args.k c.args.points.now c.args.row.now (length c.args.bytes.now) ≡ fine
+passed c =
+    sym (by_symbols _ _ _ _ _ _ _ (known (goal.at.In_ok-check_symbols c).In-Some) (within (goal.at.In_ok-check_symbols c).In_ok-check_code) c.if-row-r.false
+    (rw (size_is (goal.at.In_ok-check_symbols c).After-slip_size) at c.if-bytes-slip_size.false) _ (sym c.in_ok-check_symbols.was ∙ c.check_symbols.ensures))
+
+pub returns-in_default : goal.returns-in_default
+returns-in_default c = written_refused _ _ _ _ _ _ _ _ (refused_edition _ _ _ _ _ _ _ c.in_default.ensures)
+
+pub returns-in_err-check_numbers : goal.returns-in_err-check_numbers
+returns-in_err-check_numbers c =
+    let e : c.from_residual.result ≡ Err c.in_err-check_numbers.field-0.0 = search rules in
+    rw e
+    (written_refused _ _ _ _ _ _ _ _ (refused_numbers _ _ _ _ _ _ _ (known (goal.at.returns-in_err-check_numbers c).In-Some) _
+    (numbers_are (goal.at.returns-in_err-check_numbers c).After-check_numbers ∙ c.in_err-check_numbers.was)))
+
+pub returns-in_err-check_code : goal.returns-in_err-check_code
+returns-in_err-check_code c =
+    let e : c.from_residual-in_err-check_code.result ≡ Err c.in_err-check_code.field-0.0 = search rules in
+    rw e
+    (written_refused _ _ _ _ _ _ _ _ (refused_code _ _ _ _ _ _ _ (known (goal.at.returns-in_err-check_code c).In-Some)
+    (numbers_are (goal.at.returns-in_err-check_code c).After-check_numbers ∙ c.in_ok-check_numbers.was) _ (sym c.in_err-check_code.ensures.verdict)))
+
+pub overflow_mul-r : goal.overflow_mul-r
+overflow_mul-r c =
+    omega (arith, (within_limits _ (laid c.args.edition) _ _ _ _ (within (goal.at.overflow_mul-r c).In_ok-check_code)).numbers.row_top)
+
+pub returns-then-row-r : goal.returns-then-row-r
+returns-then-row-r c =
+    written_refused _ _ _ _ _ _ _ _ (refused_row _ _ _ _ _ _ _ (known (goal.at.returns-then-row-r c).In-Some) (within (goal.at.returns-then-row-r c).In_ok-check_code) c.if-row-r.true)
+
+pub slip_size-requires : goal.slip_size-requires
+slip_size-requires c = (
+  width_top _ (width (goal.at.slip_size-requires c).In_ok-check_code),
+  few _ (laid c.args.edition) _ _ _ c.args.points.now (within (goal.at.slip_size-requires c).In_ok-check_code) c.args.row.now c.if-row-r.false,
+)
+
+pub returns-then-bytes-slip_size : goal.returns-then-bytes-slip_size
+returns-then-bytes-slip_size c =
+    written_refused _ _ _ _ _ _ _ _ (refused_size _ _ _ _ _ _ _ (known (goal.at.returns-then-bytes-slip_size c).In-Some) (within (goal.at.returns-then-bytes-slip_size c).In_ok-check_code) c.if-row-r.false
+    (rw (size_is (goal.at.returns-then-bytes-slip_size c).After-slip_size) at c.if-bytes-slip_size.true))
+
+pub invariant_of-field : goal.invariant_of-field
+invariant_of-field c = record { known = width (goal.at.invariant_of-field c).In_ok-check_code }
+
+pub returns-in_err-check_symbols : goal.returns-in_err-check_symbols
+returns-in_err-check_symbols c =
+    let e : c.from_residual-in_err-check_symbols.result ≡ Err c.in_err-check_symbols.field-0.0 = search rules in
+    rw e
+    (written_refused _ _ _ _ _ _ _ _ (by_symbols _ _ _ _ _ _ _ (known (goal.at.returns-in_err-check_symbols c).In-Some) (within (goal.at.returns-in_err-check_symbols c).In_ok-check_code) c.if-row-r.false
+    (rw (size_is (goal.at.returns-in_err-check_symbols c).After-slip_size) at c.if-bytes-slip_size.false) _ (sym c.in_err-check_symbols.was ∙ c.check_symbols.ensures)))
+
+pub invariant_of-slip : goal.invariant_of-slip
+invariant_of-slip c =
+    let p = within (goal.at.invariant_of-slip c).In_ok-check_code in
+    let w = writable _ _ _ _ _ _ _ (passed (goal.at.invariant_of-slip c).In_ok-check_symbols) in
+    record {
+      within = rw c.in-Some.ensures p;
+      fits = rw c.in-Some.ensures (within_fits _ (laid c.args.edition) _ _ _ _ p);
+      symbols = w.symbols;
+      whole = w.row;
+    }
+
+pub fill-requires : goal.fill-requires
+fill-requires c = let w = writable _ _ _ _ _ _ _ (passed (goal.at.fill-requires c).In_ok-check_symbols) in
+    rw c.in-Some.ensures w.room
 
 pub returns : goal.returns
 returns c =
-    written_done _ _ _ _ _ _ _ (fine (goal.at.returns c).In_default) _ (size_is (goal.at.returns c).After-slip_size-size) _ (rw c.layout_of-layout.ensures at c.fill_slip.ensures)
-
-pub returns-in-Refused : goal.returns-in-Refused
-returns-in-Refused c = written_refused _ _ _ _ _ _ _ _ (sym c.check_write-v.ensures ∙ c.in-Refused.is)
-
-pub slip_size-size-requires : goal.slip_size-size-requires
-slip_size-size-requires c =
-    let width : Width c.args.m = within_width _ (laid c.args.edition) _ _ _ _ (taken (goal.at.slip_size-size-requires c).In_default).within in
-    let short : length c.args.points.now + length c.args.row.now ≤ 2 * longest = few _ (laid c.args.edition) _ _ _ c.args.points.now (taken (goal.at.slip_size-size-requires c).In_default).within c.args.row.now (taken (goal.at.slip_size-size-requires c).In_default).row in
-    (laid_by _ _ c.layout_of-layout.ensures, width_top _ width, short)
+    written_done _ _ _ _ _ _ _ (passed (goal.at.returns c).In_ok-check_symbols) _ (rw c.in-Some.ensures at c.fill.ensures.size) _ (rw c.in-Some.ensures at c.fill.ensures.written)

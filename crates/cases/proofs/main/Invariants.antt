@@ -1,5 +1,0 @@
--- `main` ends, however long the input is.
-use Rattle.cases.proofs.main.Given as goal
-
-abbrev pub decreases-loop-left : goal.decreases-loop-left
-decreases-loop-left l = l.left

@@ -1,0 +1,2 @@
+-- What the bytes of a frame stand for.
+pub mod Call
