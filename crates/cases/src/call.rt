@@ -1,7 +1,7 @@
 // The calls, and what each takes.
 ghost use Rattle.cases.specs.Call.{Decodes};
 
-#[derive(Clone, Copy, PartialEq, Eq)]
+#[derive(Clone, Copy)]
 pub enum Call {
     Encode,
     Decode,

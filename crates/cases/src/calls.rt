@@ -56,9 +56,17 @@ pub fn slip_read(
     println!(rt; "{} {} {}", Reading(s), Hex(points), Hex(row))
 }
 
-pub fn line(rt: &impl Print, case: Case<'_>, text: &mut [u8]) -> io::Result<()> {
-    let a = line::line(case.first, text);
-    show(rt, a, text)
+// Any call that reads one slice and fills one buffer.
+pub fn fill<F: Fn(&[u8], &mut [u8]) -> Result<usize, Refusal>>(
+    rt: &impl Print,
+    case: Case<'_>,
+    buffer: &mut [u8],
+    call: F,
+) -> io::Result<()>
+    requires { F.IsAlwaysCallable call }
+{
+    let a = call(case.first, buffer);
+    show(rt, a, buffer)
 }
 
 // The size of the first slip stands where another call has its detail.
@@ -66,24 +74,4 @@ pub fn roll_first(rt: &impl Print, case: Case<'_>) -> io::Result<()> {
     let number = answers::number_in(roll::roll_answer(case.first));
     let size = roll::roll_first(case.first).len();
     println!(rt; "{number} {size}")
-}
-
-pub fn to_new(rt: &impl Print, case: Case<'_>, bytes: &mut [u8]) -> io::Result<()> {
-    let a = turn::to_new(case.first, bytes);
-    show(rt, a, bytes)
-}
-
-pub fn to_old(rt: &impl Print, case: Case<'_>, bytes: &mut [u8]) -> io::Result<()> {
-    let a = turn::to_old(case.first, bytes);
-    show(rt, a, bytes)
-}
-
-pub fn levels_read(rt: &impl Print, case: Case<'_>, row: &mut [u8]) -> io::Result<()> {
-    let a = levels::levels_read(case.numbers.m, case.numbers.r, case.first, row);
-    show(rt, a, row)
-}
-
-pub fn levels_write(rt: &impl Print, case: Case<'_>, text: &mut [u8]) -> io::Result<()> {
-    let a = levels::levels_write(case.numbers.m, case.numbers.r, case.first, text);
-    show(rt, a, text)
 }

@@ -24,18 +24,29 @@ fn make(
     buffer: &mut [u8],
     other: &mut [u8],
 ) -> io::Result<()> {
+    let Numbers { m, r, .. } = case.numbers;
     match call {
         Call::Encode => calls::encode(rt, case, buffer),
         Call::Decode => calls::decode(rt, case, buffer, other),
         Call::Distance => calls::distance(rt, case),
         Call::SlipWrite => calls::slip_write(rt, case, buffer),
         Call::SlipRead => calls::slip_read(rt, case, buffer, other),
-        Call::Line => calls::line(rt, case, buffer),
+        Call::Line => calls::fill(rt, case, buffer, line::line),
         Call::RollFirst => calls::roll_first(rt, case),
-        Call::ToNew => calls::to_new(rt, case, buffer),
-        Call::ToOld => calls::to_old(rt, case, buffer),
-        Call::LevelsRead => calls::levels_read(rt, case, buffer),
-        Call::LevelsWrite => calls::levels_write(rt, case, buffer),
+        Call::ToNew => calls::fill(rt, case, buffer, turn::to_new),
+        Call::ToOld => calls::fill(rt, case, buffer, turn::to_old),
+        Call::LevelsRead => calls::fill(
+            rt,
+            case,
+            buffer,
+            |text, row| levels::levels_read(m, r, text, row),
+        ),
+        Call::LevelsWrite => calls::fill(
+            rt,
+            case,
+            buffer,
+            |row, text| levels::levels_write(m, r, row, text),
+        ),
     }
 }
 

@@ -2,12 +2,12 @@
 use Prim.Native.Nat.{ℕ, ◌*◌, ◌^◌, ◌<◌, ◌≤◌}
 use Rattle.std.specs.Prelude.{None}
 use mathlib.Core.Path.{◌≡◌, refl, ap, sym, ◌∙◌}
-use mathlib.Core.List.{List, ◌++◌}
+use mathlib.Core.List.{List}
 use native.Mathlib.Nat.{mul_comm}
 use native.Mathlib.Decide.{dec_lt}
 use native.Mathlib.Omega.{arith}
-use lib.ListN.{length, get_or, take, drop, length-take, length-drop, length-append, get_or-eq_default}
-use lib.Seq.{length-take-le, get_or-take, take_at}
+use lib.ListN.{length, get_or, take, length-take, get_or-eq_default}
+use lib.Seq.{length-take-le, get_or-take}
 use lib.Pow.{pow_pos}
 use borrow.Author.Tests.{eq-eqb, ne_eqb}
 use Rattle.defs.specs.Place.{tab, Symbols}
@@ -20,18 +20,17 @@ use Rattle.defs.specs.Decode.{decode_verdict, Decoded, refused, found, none}
 use Rattle.defs.specs.declared.Refusal.{Refusal}
 use Rattle.defs.specs.declared.Refusal.TheVariants.{Length, TooFar}
 use Rattle.theory.specs.Fill.{filled}
-use Rattle.pair.proofs.Spans.{filled_all}
+use Rattle.theory.proofs.Fill.{filled_all}
 use Rattle.defs.specs.declared.Code.{Code}
 use Rattle.theory.proofs.Limits.{count_small}
 use Rattle.theory.proofs.Checks.{decode_known}
-use Rattle.theory.proofs.Row.{length_row}
 use Rattle.code.specs.Checked.{points_of, CodeOf}
 use Rattle.code.proofs.Outcome.{is_code, points_are}
 use Rattle.code.proofs.Known.{code_numbers}
 use Rattle.rows.specs.Chunk.{Rows, Writable}
 use Rattle.pair.specs.Found.{IsRow}
 use Rattle.decode.specs.declared.Sought.{Sought}
-use Rattle.decode.specs.Search.{rest_verdict, Candidate, Sent, Nearby, IsSought, Measured}
+use Rattle.decode.specs.Search.{rest_verdict, Candidate, Nearby, IsSought, Measured}
 use Rattle.std.proofs.Common.{Err, Ok}
 
 module _ (c : Code) (w : List ℕ) (size deep : ℕ) where
@@ -94,16 +93,6 @@ module _ {c : Code} {f : List ℕ} {n : ℕ} (x : Candidate c f n) where
 
   pub writable : (row : List ℕ) → length row ≡ n → Writable c (take c.k f) row
   writable row e = record { message = front_message; room = e ∙ x.size }
-
-  -- the row written to the front of an array
-  pub sent_front : (new old : List ℕ) → length old ≡ longest → new ≡ row_of c.m c.r (points_of c) (take c.k f) → Sent c f n (new ++ drop n old)
-  sent_front new old e h =
-      let size : length new ≡ n =
-      ap length h ∙ length_row c.m c.r (points_of c) (take c.k f) ∙ ap (λ (i : ℕ). c.r * i) (is_code c).counted ∙ sym x.size in
-      record {
-        long = length-append new (drop n old) ∙ omega (arith, length-drop n old, row_short);
-        row = take_at new (drop n old) n size ∙ h;
-      }
 
 -- the ways out of the call
 module _ (m r k : ℕ) (points w message depth : List ℕ) where

@@ -1,4 +1,4 @@
-// Decode: what the quotient of a pair is gets measured against the row; and the call.
+// Decoding: the quotient of a pair, measured against the row; and the call.
 #![tactic(auto)]
 
 ghost use Rattle.std.specs.Prelude.{◌≡◌, length};
@@ -34,16 +34,16 @@ fn seek(code: &Code, row: &[u8]) -> Option<Sought>
 {
     let n = row.len();
     let reach = pair::radius(n, code.k);
-    let pair = pair::find_pair(code, row)?;
-    let message = quotient::quotient(code::field_of(code), code.k, pair.first(), pair.second());
+    let found = pair::find_pair(code, row)?;
+    let message = quotient::quotient(code::field_of(code), code.k, found.first(), found.second());
     let sent = row_of(code, &message, n);
-    let rows = TwoRows {
+    let compared = TwoRows {
         r: code.r,
         count: code.count,
         a: &sent[..n],
         b: row,
     };
-    let d = rows.distance();
+    let d = compared.distance();
     if reach < d {
         return None;
     }
@@ -92,11 +92,11 @@ pub fn decode(
     check_rest(&code, row, message.len(), depths.len())?;
     let sought = seek(&code, row).ok_or(Refusal::TooFar)?;
     message.copy_from_slice(&sought.message[..code.k]);
-    let rows = TwoRows {
+    let compared = TwoRows {
         r: code.r,
         count: code.count,
         a: &sought.row[..row.len()],
         b: row,
     };
-    Ok(write_depths(&rows, depths))
+    Ok(write_depths(&compared, depths))
 }

@@ -10,7 +10,7 @@ pub const DEEPEST: usize = 8;
 // The symbols that a row may have, and so the points and the message.
 pub const LONGEST: usize = 240;
 
-// Why a call is refused: a variant for each number, with the place in 5, 6 and 8 and the line in 17 and 18.
+// Why a call is refused: a variant for each number (14 and 16 are none), with the place in 5, 6 and 8 and the line in 17 and 18.
 #[derive(Clone, Copy, Debug, PartialEq, Eq)]
 pub enum Refusal {
     Field,
@@ -45,7 +45,7 @@ pub struct Code {
     pub ghost inside: { Inside m r k (take count points) },
 }
 
-// How an edition lays out a slip: the bits of n' - 1 and of k - 1, the zero bits behind them, and the longest row that it holds.
+// How an edition lays out a slip: its number, the bits of n' - 1 and of k - 1, the zero bits behind them, and the longest row that it holds.
 #[derive(Clone, Copy)]
 pub struct Layout {
     pub edition: usize,

@@ -4,9 +4,10 @@
 mod binomial;
 mod tables;
 
-ghost use Rattle.std.specs.Prelude.{◌≡◌, ◌+◌, ◌*◌, ◌-◌, ◌^◌, ◌<◌, ◌≤◌, length, IfSome, is_some};
-ghost use Rattle.defs.specs.Field.{Width, times2, mul, pow};
+ghost use Rattle.std.specs.Prelude.{◌≡◌, ◌+◌, ◌*◌, ◌-◌, ◌^◌, ◌<◌, ◌≤◌, length, get_or, IfSome, is_some};
+ghost use Rattle.defs.specs.Field.{Width, add, times2, mul, pow};
 ghost use Rattle.defs.specs.Limits.{is_width};
+ghost use Rattle.defs.specs.Place.{tab};
 ghost use Rattle.field.specs.Arithmetic.{Element, Inverse, Logarithm, Powers, Logarithms};
 ghost use Rattle.field.specs.Arithmetic.{Products, Doubled};
 ghost use Rattle.field.specs.Width.{width-prop};
@@ -42,7 +43,7 @@ impl Field {
         1 << self.m
     }
 
-    // The table of powers of 2, with its rule, which whoever looks one up cites.
+    // The powers of 2, twice round, as a table.
     fn powers(self) -> &'static [u8]
         ensures { Powers self.m result.now }
     {
@@ -53,7 +54,7 @@ impl Field {
         }
     }
 
-    // The same of the logarithms.
+    // The logarithms, as a table.
     fn logarithms(self) -> &'static [u8]
         ensures { Logarithms self.m result.now }
     {
@@ -80,6 +81,7 @@ impl Field {
         self.logarithms()[usize::from(a)]
     }
 
+    // a b, by the sum of their logarithms; 0 has none.
     pub fn mul(self, a: u8, b: u8) -> u8
         requires { (a < 2 ^ self.m) × (b < 2 ^ self.m) }
         ensures { Element self.m (mul self.m a b) result }
@@ -90,6 +92,7 @@ impl Field {
         self.exp(usize::from(self.log(a)) + usize::from(self.log(b)))
     }
 
+    // 1 / a: its logarithm and that of a add up to 2^m - 1.
     pub fn inverse(self, a: u8) -> u8
         requires { (a < 2 ^ self.m) × (a ≡ 0 → ⊥) }
         ensures { Inverse self.m a result }
@@ -137,6 +140,16 @@ impl Field {
             step = self.times2(step);
         }
         row
+    }
+}
+
+// Adds the multiples of some entries to as many others.
+pub fn add_products(to: &mut [u8], from: &[u8], products: &[u8; 256])
+    requires { length from.now ≡ length to.old }
+    ensures { to.new ≡ tab (λ a. add (get_or to.old a 0) (get_or products.now (get_or from.now a 0) 0)) (length to.old) }
+{
+    for (a, entry) in to.iter_mut().enumerate() {
+        *entry ^= products[usize::from(from[a])];
     }
 }
 

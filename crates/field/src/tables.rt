@@ -16,7 +16,7 @@ const POWERS16: usize = 2 * (ELEMENTS16 - 1);
 pub const POWERS: usize = 2 * (ELEMENTS - 1);
 
 // 2^i at i, in the field with 256 elements.
-pub static EXP: [u8; POWERS] = [
+pub(crate) static EXP: [u8; POWERS] = [
     1, 2, 4, 8, 16, 32, 64, 128, 29, // 2^8, the first that is reduced
     58, 116, 232, 205, 135, 19, 38, 76, 152, 45, 90, 180, 117, 234, 201, 143, 3, 6, 12, 24, 48, 96,
     192, 157, 39, 78, 156, 37, 74, 148, 53, 106, 212, 181, 119, 238, 193, 159, 35, 70, 140, 5, 10,
@@ -46,7 +46,7 @@ pub static EXP: [u8; POWERS] = [
 ];
 
 // The power of 2 that a is, at a. The entry at 0 means nothing.
-pub static LOG: [u8; ELEMENTS] = [
+pub(crate) static LOG: [u8; ELEMENTS] = [
     0, 0, 1, 25, 2, 50, 26, 198, 3, 223, 51, 238, 27, 104, 199, 75, 4, 100, 224, 14, 52, 141, 239,
     129, 28, 193, 105, 248, 200, 8, 76, 113, 5, 138, 101, 47, 225, 36, 15, 33, 53, 147, 142, 218,
     240, 18, 130, 69, 29, 181, 194, 125, 106, 39, 249, 185, 201, 154, 9, 120, 77, 228, 114, 166, 6,
@@ -63,16 +63,16 @@ pub static LOG: [u8; ELEMENTS] = [
 ];
 
 // 2^i at i, in the field with 4 elements.
-pub static EXP4: [u8; POWERS4] = [1, 2, 3, 1, 2, 3];
+pub(crate) static EXP4: [u8; POWERS4] = [1, 2, 3, 1, 2, 3];
 
 // The power of 2 that a is in the field with 4 elements, at a. The entry at 0 means nothing.
-pub static LOG4: [u8; ELEMENTS4] = [0, 0, 1, 2];
+pub(crate) static LOG4: [u8; ELEMENTS4] = [0, 0, 1, 2];
 
 // 2^i at i, in the field with 16 elements.
-pub static EXP16: [u8; POWERS16] = [
+pub(crate) static EXP16: [u8; POWERS16] = [
     1, 2, 4, 8, 3, 6, 12, 11, 5, 10, 7, 14, 15, 13, 9, 1, 2, 4, 8, 3, 6, 12, 11, 5, 10, 7, 14, 15,
     13, 9,
 ];
 
 // The power of 2 that a is in the field with 16 elements, at a. The entry at 0 means nothing.
-pub static LOG16: [u8; ELEMENTS16] = [0, 0, 1, 4, 2, 8, 5, 10, 3, 14, 9, 7, 6, 13, 11, 12];
+pub(crate) static LOG16: [u8; ELEMENTS16] = [0, 0, 1, 4, 2, 8, 5, 10, 3, 14, 9, 7, 6, 13, 11, 12];

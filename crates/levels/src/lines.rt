@@ -8,7 +8,7 @@ ghost use Rattle.levels.specs.Lines.{head_line, behind, text_checks, Fillable};
 use crate::level::Scale;
 use defs::Refusal;
 
-// Whether the first line of a text is written as it must be. Its digits end before end.
+// Whether the first line of a text, whose digits end at `end`, is written as it must be.
 fn is_written(text: &[u8], end: usize) -> bool
     requires { end ≡ digit_count text.now }
     ensures { result ≡ written (head_line text.now) }
@@ -19,7 +19,7 @@ fn is_written(text: &[u8], end: usize) -> bool
     text[0] != b'0' || end == 1
 }
 
-// 17 and 18, on the first line of a text, which has the number line. What stands behind it.
+// 17 and 18, on the first line of a text, which is line number `line`; else what stands behind it.
 fn check_line(text: &[u8], line: usize, top: usize) -> Result<&[u8], Refusal>
     ensures verdict { verdict_of result ≡ level_verdict (top + 1) line (head_line text.now) }
     ensures behind { IfOk result (λ s. s.now ≡ behind text.now) }

@@ -15,8 +15,9 @@ use Rattle.theory.proofs.Generator.{one_lt}
 use Rattle.field.specs.Arithmetic.{Products}
 use Rattle.solve.specs.Table.{stride, at}
 use Rattle.pair.specs.Equation.{deeper, power_at}
-use Rattle.pair.specs.Fill.{look, Span, Powers}
-use Rattle.pair.proofs.Spans.{span_symbols}
+use Rattle.theory.specs.Fill.{Span}
+use Rattle.theory.proofs.Spans.{span_symbols}
+use Rattle.pair.specs.Fill.{look, Powers}
 
 -- the next coefficient of a depth
 pub deeper_next : (f : ℕ → ℕ) (first : ℕ) (above : ℕ → ℕ) (a : ℕ) → deeper f first above (a + 1) ≡ add (above a) (f (deeper f first above a))

@@ -1,6 +1,5 @@
 -- The laws behind the equations.
 pub mod Expand
-pub mod Spans
 pub mod Depths
 pub mod Multiples
 pub mod Chunks

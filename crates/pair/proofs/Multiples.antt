@@ -11,8 +11,9 @@ use Rattle.theory.proofs.Order.{eq_or_not, eq_lt}
 use Rattle.theory.proofs.Field.{add_lt}
 use Rattle.field.specs.Arithmetic.{Products}
 use Rattle.solve.specs.Table.{stride, at}
-use Rattle.pair.specs.Fill.{look, Span, Added}
-use Rattle.pair.proofs.Spans.{span_symbols}
+use Rattle.theory.specs.Fill.{Span}
+use Rattle.theory.proofs.Spans.{span_symbols}
+use Rattle.pair.specs.Fill.{look, Added}
 
 module _ {m x b s₀ s₁ : ℕ} {t₀ : List ℕ} where
   pub added_none : Symbols m t₀ → Added m x b b s₀ s₁ t₀ t₀

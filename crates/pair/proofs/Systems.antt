@@ -12,8 +12,9 @@ use Rattle.defs.specs.Distance.{symbol}
 use Rattle.theory.proofs.Order.{eq_or_not, eq_lt}
 use Rattle.solve.specs.Table.{stride, table_size, at, Shape}
 use Rattle.pair.specs.Equation.{Equation}
-use Rattle.pair.specs.Fill.{look, Span, Chunk, System}
-use Rattle.pair.proofs.Spans.{span_symbols}
+use Rattle.theory.specs.Fill.{Span}
+use Rattle.theory.proofs.Spans.{span_symbols}
+use Rattle.pair.specs.Fill.{look, Chunk, System}
 use Rattle.pair.proofs.Chunks.{mixed_same}
 
 -- a table of zeros

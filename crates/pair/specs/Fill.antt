@@ -10,12 +10,6 @@ use Rattle.pair.specs.Equation.{power_at, Equation}
 abbrev pub look : List ℕ → ℕ → ℕ
 look row x = get_or row x 0
 
--- t is t₀ but for n entries from base on, of which the a-th is g a
-pub record Span (t₀ : List ℕ) (base n : ℕ) (g : ℕ → ℕ) (t : List ℕ) : Type 0 where
-  pub size : length t ≡ length t₀
-  pub inside : (a : ℕ) → a < n → get_or t (base + a) 0 ≡ g a
-  pub outside : (k : ℕ) → ((a : ℕ) → a < n → k ≡ base + a → ⊥) → get_or t k 0 ≡ get_or t₀ k 0
-
 -- t is t₀ but for the first n entries in each of its first d rows: in row j they are the coefficients j of 1, x, x ^ 2, .. at P
 pub record Powers (m P d n : ℕ) (t₀ t : List ℕ) : Type 0 where
   pub size : length t ≡ length t₀

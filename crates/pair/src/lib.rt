@@ -5,7 +5,6 @@
 mod sizes;
 
 ghost use Rattle.std.specs.Prelude.{◌≡◌, ℕ, ◌+◌, ◌*◌, ◌^◌, ◌<◌, ◌≤◌, length, get_or, take};
-ghost use Rattle.defs.specs.Field.{add};
 ghost use Rattle.defs.specs.Place.{tab, Symbols};
 ghost use Rattle.defs.specs.Distance.{radius as radiusOf};
 ghost use Rattle.defs.specs.Limits.{longest};
@@ -17,7 +16,7 @@ ghost use Rattle.pair.specs.Fill.{look, Powers, Added, Chunk, System};
 ghost use Rattle.pair.specs.Found.{IsRow, q₀, q₁, Found};
 
 use defs::{Code, LONGEST};
-use field::Field;
+use field::{Field, add_products};
 use sizes::Sizes;
 use solve::{Extent, STRIDE, TABLE, Table};
 
@@ -72,16 +71,6 @@ fn write_depths(rows: &mut [u8], field: Field, point: u8, r: usize, n: usize)
         let (before, row) = rows.split_at_mut(j * STRIDE);
         let above = (j - 1) * STRIDE;
         write_depth(&mut row[..n], &before[above..above + n], 0, &products);
-    }
-}
-
-// Adds the multiples of some entries to as many others.
-fn add_products(to: &mut [u8], from: &[u8], products: &[u8; 256])
-    requires { length from.now ≡ length to.old }
-    ensures { to.new ≡ tab (λ a. add (get_or to.old a 0) (look products.now (get_or from.now a 0))) (length to.old) }
-{
-    for (a, entry) in to.iter_mut().enumerate() {
-        *entry ^= products[usize::from(from[a])];
     }
 }
 

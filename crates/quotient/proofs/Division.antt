@@ -1,10 +1,9 @@
 -- Turns of the loops of long division.
 use Prim.Native.Nat.{ℕ, suc, ◌+◌, ◌-◌, ◌^◌, ◌<◌, ◌≤◌}
-use mathlib.Core.Path.{◌≡◌, ap, sym, subst, ◌∙◌}
+use mathlib.Core.Path.{◌≡◌, ap, ap₂, sym, subst, ◌∙◌}
 use mathlib.Core.List.{List, ◌++◌}
 use native.Mathlib.Decide.{dec_lt, ℕ_discrete}
 use native.Mathlib.Omega.{arith}
-use lib.Bits.{bit_xor}
 use lib.ListN.{length, get_or, drop, set, replicate, length-set, length-append, length-drop, length-replicate, get_or-append, get_or-eq_default}
 use lib.Seq.{get_or-set_same, get_or-set_other, set_out, get_or-append-add, get_or-drop}
 use Rattle.defs.specs.Field.{add, mul}
@@ -16,37 +15,14 @@ use Rattle.defs.specs.Write.{front}
 use Rattle.theory.specs.Poly.{pmul}
 use Rattle.theory.specs.Vanish.{Deg, Same}
 use Rattle.theory.specs.Quotient.{Remains}
-use Rattle.theory.proofs.Field.{add_lt, mul_lt, add_0, mul_0}
+use Rattle.theory.specs.Fill.{Span}
+use Rattle.theory.proofs.Order.{eq_lt}
+use Rattle.theory.proofs.Spans.{span_symbols}
+use Rattle.theory.proofs.Field.{add_lt, add_0, mul_0}
 use Rattle.theory.proofs.Place.{zeros_zero}
 use Rattle.theory.proofs.Quotient.{remains_first, remains_found, remains_turn}
 use Rattle.field.specs.Arithmetic.{Element, Products}
-use Rattle.quotient.specs.Quotient.{Leading, TakenOff, Divided, Dividing, Quotient}
-
-module _ (products q : List ℕ) (at : ℕ) (rem : List ℕ) where
-  pub off_more : (i : ℕ) (new : List ℕ) → at + i < length rem → TakenOff products q i at rem new
-      → TakenOff products q (i + 1) at rem (set new (at + i) (bit_xor (get_or new (at + i) 0) (get_or products (get_or q i 0) 0)))
-  unfolding add
-  off_more i new l t =
-      let there : at + i < length new = omega (arith, t.size) in
-      let v : ℕ = bit_xor (get_or new (at + i) 0) (get_or products (get_or q i 0) 0) in
-      record {
-        size = length-set new (at + i) v ∙ t.size;
-        before = λ p l'. get_or-set_other new (at + i) p v 0 (λ e. omega arith) ∙ t.before p l';
-        off = λ j l'. go there j l' (dec_lt j i);
-        behind = λ p l'. get_or-set_other new (at + i) p v 0 (λ e. omega arith) ∙ t.behind p (omega arith);
-      }
-    where
-      go : at + i < length new → (j : ℕ) → j < i + 1 → Dec (j < i)
-          → get_or (set new (at + i) (bit_xor (get_or new (at + i) 0) (get_or products (get_or q i 0) 0))) (at + j) 0
-          ≡ add (get_or rem (at + j) 0) (get_or products (get_or q j 0) 0)
-      go h j l' (yes d) = get_or-set_other new (at + i) (at + j) _ 0 (λ e. omega arith) ∙ t.off j d
-      go h j l' (no d) =
-          let v : ℕ = bit_xor (get_or new (at + i) 0) (get_or products (get_or q i 0) 0) in
-          let e : j ≡ i = omega arith in
-          ap (λ (x : ℕ). get_or (set new (at + i) v) (at + x) 0) e
-          ∙ get_or-set_same new (at + i) v 0 h
-          ∙ ap (λ (x : ℕ). bit_xor x (get_or products (get_or q i 0) 0)) (t.behind (at + i) (omega arith))
-          ∙ ap (λ (x : ℕ). bit_xor (get_or rem (at + x) 0) (get_or products (get_or q x 0) 0)) (sym e)
+use Rattle.quotient.specs.Quotient.{Leading, Divided, Dividing, Quotient}
 
 set_symbols : (m : ℕ) (s : List ℕ) (i a : ℕ) → a < 2 ^ m → Symbols m s → Symbols m (set s i a)
 set_symbols m s i a l h j = go (ℕ_discrete j i) (dec_lt i (length s))
@@ -56,32 +32,26 @@ set_symbols m s i a l h j = go (ℕ_discrete j i) (dec_lt i (length s))
     go (yes e) (no b) = rw (set_out s i a (omega arith)) (h j)
     go (no e) b = rw (get_or-set_other s i j a 0 e) (h j)
 
--- one coefficient of the quotient
-pub divided : (m : ℕ) (q : List ℕ) (inverse at : ℕ) (rem : List ℕ) (a : ℕ) (products rem' : List ℕ) → Symbols m q → Symbols m rem
-    → Element m (mul m (get_or rem (at + (length q - 1)) 0) inverse) a → Products m a products → TakenOff products q (length q) at rem rem'
-    → Divided m q inverse at rem a rem'
-divided m q inverse at rem a products rem' q_in rem_in e p t =
+-- one coefficient of the quotient; to are rem's coefficients that q lies over
+pub divided : (m : ℕ) (q : List ℕ) (inverse at : ℕ) (rem : List ℕ) (a : ℕ) (products to rem' : List ℕ) → Symbols m q → Symbols m rem
+    → Element m (mul m (get_or rem (at + (length q - 1)) 0) inverse) a → Products m a products
+    → ((i : ℕ) → i < length q → get_or to i 0 ≡ get_or rem (at + i) 0)
+    → Span rem at (length q) (λ i. add (get_or to i 0) (get_or products (get_or q i 0) 0)) rem' → Divided m q inverse at rem a rem'
+divided m q inverse at rem a products to rem' q_in rem_in e p is_to S =
     record {
       is = e.is;
       small = e.small;
-      symbols = λ x. symbol x (dec_lt x at);
-      size = t.size;
-      before = t.before;
+      symbols = span_symbols m S rem_in (λ i l. add_lt m _ _ (eq_lt (is_to i l) (rem_in _)) (p.small _));
+      size = S.size;
+      before = λ x l. S.outside x (λ i l' e'. omega arith);
       off = λ i. off i (dec_lt i (length q));
     }
   where
     off : (i : ℕ) → Dec (i < length q) → get_or rem' (at + i) 0 ≡ add (get_or rem (at + i) 0) (mul m a (get_or q i 0))
-    off i (yes l) = t.off i l ∙ ap (add (get_or rem (at + i) 0)) (p.at (get_or q i 0) (q_in i))
+    off i (yes l) = S.inside i l ∙ ap₂ add (is_to i l) (p.at (get_or q i 0) (q_in i))
     off i (no l) =
         let none : get_or q i 0 ≡ 0 = get_or-eq_default q 0 (omega arith) in
-        rw (none, mul_0, add_0) (t.behind (at + i) (omega arith))
-
-    symbol : (x : ℕ) → Dec (x < at) → get_or rem' x 0 < 2 ^ m
-    symbol x (yes l) = rw (t.before x l) (rem_in x)
-    symbol x (no l) =
-        let e : at + (x - at) ≡ x = omega arith in
-        subst (λ (y : ℕ). get_or rem' y 0 < 2 ^ m) e
-        (rw (off (x - at) (dec_lt (x - at) (length q))) (add_lt m _ _ (rem_in _) (mul_lt m a _)))
+        rw (none, mul_0, add_0) (S.outside (at + i) (λ j l' e'. omega arith))
 
 -- a list with zeros behind it has its coefficients
 front_zeros : (q : List ℕ) (n : ℕ) → Same (front q (replicate n 0)) q

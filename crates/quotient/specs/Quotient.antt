@@ -13,13 +13,6 @@ pub record Leading (q lead : List ℕ) : Type 0 where
   pub within : length lead ≤ length q
   pub same : Same lead q
 
--- what the products of the first c coefficients of q are was added to rem, at places up
-pub record TakenOff (products q : List ℕ) (c at : ℕ) (rem rem' : List ℕ) : Type 0 where
-  pub size : length rem' ≡ length rem
-  pub before : (p : ℕ) → p < at → get_or rem' p 0 ≡ get_or rem p 0
-  pub off : (i : ℕ) → i < c → get_or rem' (at + i) 0 ≡ add (get_or rem (at + i) 0) (get_or products (get_or q i 0) 0)
-  pub behind : (p : ℕ) → at + c ≤ p → get_or rem' p 0 ≡ get_or rem p 0
-
 -- a is rem's coefficient over the top of q, divided by q's, and a x ^ at times q was taken off rem
 pub record Divided (m : ℕ) (q : List ℕ) (inverse at : ℕ) (rem : List ℕ) (a : ℕ) (rem' : List ℕ) : Type 0 where
   pub is : a ≡ mul m (get_or rem (at + (length q - 1)) 0) inverse

@@ -6,10 +6,10 @@ ghost use Rattle.defs.specs.Field.{mul};
 ghost use Rattle.defs.specs.Place.{Symbols};
 ghost use Rattle.defs.specs.Pair.{Zero};
 ghost use Rattle.theory.specs.Vanish.{Deg};
-ghost use Rattle.quotient.specs.Quotient.{Leading, TakenOff, Divided, Dividing, Quotient};
+ghost use Rattle.quotient.specs.Quotient.{Leading, Divided, Dividing, Quotient};
 
 use defs::LONGEST;
-use field::Field;
+use field::{Field, add_products};
 
 // What is divided by: coefficients of which the highest is not zero, and the inverse of that one.
 #[derive(Drop)]
@@ -37,7 +37,7 @@ impl<'a> Divisor<'a> {
         })
     }
 
-    // The coefficient at places up of the quotient, which is taken off rem.
+    // The quotient's coefficient `at`; what it contributes is taken off rem.
     fn divide_at(&self, at: usize, rem: &mut [u8]) -> u8
         requires { Symbols self.now.field.m rem.old × (at + length self.now.q.now ≤ length rem.old) }
         ensures { Divided self.now.field.m self.now.q.now self.now.inverse at rem.old result rem.new }
@@ -45,7 +45,7 @@ impl<'a> Divisor<'a> {
         let top = at + (self.q.len() - 1);
         let a = self.field.mul(rem[top], self.inverse);
         let products = self.field.product_row(a);
-        take_off(&products, self.q, at, rem);
+        add_products(&mut rem[at..at + self.q.len()], self.q, &products);
         a // the coefficient found
     }
 }
@@ -55,16 +55,6 @@ fn top_of(q: &[u8]) -> Option<usize>
     ensures { MatchOption result (Zero q.now) (λ t. (t < length q.now) × ((get_or q.now t 0 ≡ 0 → ⊥) × Deg (t + 1) q.now)) }
 {
     q.iter().rposition(|&a| a != 0)
-}
-
-// Takes a multiple of q off rem, at places up; products has the multiples of q's coefficients.
-fn take_off(products: &[u8; 256], q: &[u8], at: usize, rem: &mut [u8])
-    requires { (length products.now ≡ 256) × (at + length q.now ≤ length rem.old) }
-    ensures { TakenOff products.now q.now (length q.now) at rem.old rem.new }
-{
-    for i in 0..q.len() {
-        rem[at + i] ^= products[usize::from(q[i])];
-    }
 }
 
 // The quotient of k coefficients, from the top down.

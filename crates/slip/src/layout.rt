@@ -1,11 +1,11 @@
 // The two editions of slips, and how each lays one out: the bits of its fields, and its size.
 ghost use Rattle.std.specs.Prelude.{◌≡◌, false, ◌*◌, ◌<◌, ◌≤◌, MatchOption};
 ghost use Rattle.defs.specs.Limits.{longest};
-ghost use Rattle.defs.specs.Slip.{is_edition, head_bits, slip_size, width_of, field_code};
+ghost use Rattle.defs.specs.Slip.{head_bits, slip_size, width_of, field_code};
 ghost use Rattle.slip.specs.Laid.{Laid};
-ghost use Rattle.slip.specs.Edition.{number, layout};
+ghost use Rattle.slip.specs.Edition.{number, layout, Known};
 
-use defs::{LONGEST, Layout};
+use defs::{LONGEST, Layout, Refusal};
 use field::Field;
 
 // The editions that are known.
@@ -15,18 +15,22 @@ pub enum Edition {
     New,
 }
 
-impl Edition {
-    // The edition of this number, where slips of it are known.
-    pub(crate) fn of(edition: usize) -> Option<Edition>
-        ensures { MatchOption result (is_edition edition ≡ false) (λ E. number E ≡ edition) }
-    {
+impl TryFrom<usize> for Edition {
+    type Error = Refusal;
+
+    ghost try_from_gives = { Known };
+
+    // 11 on a number of no known edition.
+    fn try_from(edition: usize) -> Result<Edition, Refusal> {
         match edition {
-            1 => Some(Edition::Old),
-            2 => Some(Edition::New),
-            _ => None,
+            1 => Ok(Edition::Old),
+            2 => Ok(Edition::New),
+            _ => Err(Refusal::Edition),
         }
     }
+}
 
+impl Edition {
     // Its number.
     pub fn number(self) -> usize
         ensures { result ≡ number self }
@@ -78,7 +82,7 @@ impl Edition {
 }
 
 // The code of a field: 0, 1, 2 for m of 2, 4, 8.
-pub fn field_code(field: Field) -> usize
+pub(crate) fn field_code(field: Field) -> usize
     ensures { (result ≡ field_code field.m) × (result < 4) }
 {
     match field.m {
@@ -89,7 +93,7 @@ pub fn field_code(field: Field) -> usize
 }
 
 // The field of a code.
-pub fn field_of(code: usize) -> Option<Field>
+pub(crate) fn field_coded(code: usize) -> Option<Field>
     ensures { MatchOption result (width_of code ≡ 0) (λ f. f.m ≡ width_of code) }
 {
     match code {

@@ -62,13 +62,11 @@ fn open(bytes: &[u8]) -> Result<Reader<'_>, Refusal>
     if bytes.len() < 3 {
         return Err(Refusal::SlipShort);
     }
-    let Some(edition) = Edition::of(edition_in(bytes)) else {
-        return Err(Refusal::Edition);
-    };
+    let edition = Edition::try_from(edition_in(bytes))?;
     if bytes.len() < edition.head_bits() / 8 {
         return Err(Refusal::SlipShort);
     }
-    let Some(field) = layout::field_of(number_at(bytes, 4, 2)) else {
+    let Some(field) = layout::field_coded(number_at(bytes, 4, 2)) else {
         return Err(Refusal::Field);
     };
     let layout = edition.layout();
@@ -140,7 +138,7 @@ impl Reader<'_> {
         number_at(self.bytes, start - zeros, zeros) + number_at(self.bytes, used, left)
     }
 
-    // Then 12, 13, 6, 7. count and n are the lengths of the reader's two buffers.
+    // Then 12, 13, 6, 7. count and n are the lengths of slip_read's two buffers.
     fn check(&self, count: usize, n: usize) -> Result<(), Refusal>
         ensures { result ≡ read_verdict self.now.bytes.now count n }
     {

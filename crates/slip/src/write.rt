@@ -88,7 +88,7 @@ impl Slip<'_> {
         ((self.header() >> (8 * (first - 1 - i))) % 256) as u8
     }
 
-    // Its bytes.
+    // How many bytes it has.
     fn size(&self) -> usize
         ensures { (result ≡ size_of self.now) × (result ≤ longest_slip) }
     {
@@ -123,9 +123,7 @@ pub fn slip_write(
 ) -> Result<usize, Refusal>
     ensures { Written edition m r k points.now row.now bytes.old result bytes.new }
 {
-    let Some(edition) = Edition::of(edition) else {
-        return Err(Refusal::Edition);
-    };
+    let edition = Edition::try_from(edition)?;
     let layout = edition.layout();
     code::check_numbers(layout.top, m, r, k, points.len())?;
     let _ = code::check_code(m, r, k, points)?;

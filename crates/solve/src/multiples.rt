@@ -93,7 +93,7 @@ impl RowMultiples {
         multiples
     }
 
-    // Adds row p times f to row r of the table, by the multiples of row p, which has 0 before the columns.
+    // Adds row p times f to row r of the table, by the multiples of row p, which has 0 before the columns. Only the contract names p.
     pub fn add_to(&self, table: &mut Table, r: usize, p: usize, f: u8)
         requires same_field { self.now.columns.field ≡ table.old.extent.field }
         requires to_end { self.now.columns.end ≡ table.old.extent.cols }

@@ -1,12 +1,12 @@
 -- One law for every loop that fills a buffer.
-use Prim.Native.Nat.{ℕ, suc, ◌+◌, ◌<◌, ◌≤◌}
+use Prim.Native.Nat.{ℕ, suc, ◌+◌, ◌-◌, ◌<◌, ◌≤◌}
 use mathlib.Core.Path.{◌≡◌, ap, sym, subst, ◌∙◌}
 use mathlib.Core.List.{List, [], ◌∷◌, ◌++◌, append_assoc, append-nil}
 use native.Mathlib.Nat.{add-suc, add-zero, zero-add}
 use native.Mathlib.Numerals.{add-one}
 use native.Mathlib.Omega.{arith}
-use lib.ListN.{length, get_or, take, drop, set, length-append, take-append-drop}
-use lib.Seq.{length-take-le, drop-cons, set_at, append_snoc}
+use lib.ListN.{length, get_or, take, drop, set, length-append, take-append-drop, drop_of_length-le}
+use lib.Seq.{length-take-le, drop-cons, set_at, append_snoc, get_or-append-add, get_or-drop}
 use Rattle.defs.specs.Place.{tab}
 use Rattle.theory.specs.Fill.{filled}
 use Rattle.theory.proofs.Place.{length_tab, tab_snoc}
@@ -41,3 +41,16 @@ filled_next d F i h = subst (λ (k : ℕ). set (filled d 0 F i) k (F i) ≡ fill
 pub filled_front : (d : List ℕ) (F : ℕ → ℕ) (n : ℕ) → filled d 0 F n ≡ tab F n ++ drop n d
 unfolding filled
 filled_front d F n = ap (λ (k : ℕ). tab F n ++ drop k d) (zero-add n)
+
+-- a whole list is filled
+pub filled_all : (d : List ℕ) (F : ℕ → ℕ) (n : ℕ) → n ≡ length d → filled d 0 F n ≡ tab F (length d)
+filled_all d F n e =
+    filled_front d F n ∙ ap (λ (s : List ℕ). tab F n ++ s) (drop_of_length-le d (omega arith)) ∙ append-nil (tab F n) ∙ ap (tab F) e
+
+-- what is still to be filled
+pub filled_rest : (d : List ℕ) (F : ℕ → ℕ) (n i : ℕ) → n ≤ i → get_or (filled d 0 F n) i 0 ≡ get_or d i 0
+filled_rest d F n i h =
+    let e : i ≡ length (tab F n) + (i - n) = omega (arith, length_tab F n) in
+    let g : n + (i - n) ≡ i = omega arith in
+    ap (λ (s : List ℕ). get_or s i 0) (filled_front d F n) ∙ ap (λ (k : ℕ). get_or (tab F n ++ drop n d) k 0) e
+    ∙ get_or-append-add (tab F n) (drop n d) (i - n) 0 ∙ get_or-drop n d (i - n) 0 ∙ ap (λ (k : ℕ). get_or d k 0) g

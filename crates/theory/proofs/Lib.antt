@@ -5,6 +5,7 @@ pub mod Width
 pub mod Generator
 pub mod Place
 pub mod Fill
+pub mod Spans
 pub mod Verdict
 pub mod Limits
 pub mod Layouts

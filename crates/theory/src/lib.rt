@@ -1,3 +1,2 @@
-#![tactic(auto)]
-
 // No function: the laws of the definitions are in proofs/.
+#![tactic(auto)]

@@ -50,13 +50,13 @@ copy_from_slice-requires c =
     let long = (nearby (goal.at.copy_from_slice-requires c).In_ok-sought).long in
     (room _ _ _ _ (passed (goal.at.copy_from_slice-requires c).In_ok-check_rest)).0 ∙ sym (length-take-le _ _ (omega (arith, long, message_top c.in_ok-code.code)))
 
-pub shared_ref_as_front-rows : goal.shared_ref_as_front-rows
-shared_ref_as_front-rows c = short (is_row _ _ _ _ (passed (goal.at.shared_ref_as_front-rows c).In_ok-check_rest))
+pub shared_ref_as_front-compared : goal.shared_ref_as_front-compared
+shared_ref_as_front-compared c = short (is_row _ _ _ _ (passed (goal.at.shared_ref_as_front-compared c).In_ok-check_rest))
 
-pub invariant_of-rows : goal.invariant_of-rows
-invariant_of-rows c =
-    let row = is_row _ _ _ _ (passed (goal.at.invariant_of-rows c).In_ok-check_rest) in
-    record { chunks = rows_front c.in_ok-code.code _ _ _ refl row.size (nearby (goal.at.invariant_of-rows c).In_ok-sought).sent.long }
+pub invariant_of-compared : goal.invariant_of-compared
+invariant_of-compared c =
+    let row = is_row _ _ _ _ (passed (goal.at.invariant_of-compared c).In_ok-check_rest) in
+    record { chunks = rows_front c.in_ok-code.code _ _ _ refl row.size (nearby (goal.at.invariant_of-compared c).In_ok-sought).sent.long }
 
 pub write_depths-requires : goal.write_depths-requires
 write_depths-requires c = (room _ _ _ _ (passed (goal.at.write_depths-requires c).In_ok-check_rest)).1

@@ -13,7 +13,7 @@ use Rattle.decode.proofs.seek.Goals.{After-row_of-sent, After-second}
 
 -- where its two polynomials are handed on
 pair : (c : After-second) → let k = c.args.code.now in IsPair k.m k.r k.k (points_of k) c.args.row.now c.first.result.now c.second.result.now
-pair c = rw (c.first.ensures, c.second.ensures) c.in_ok-pair.ensures
+pair c = rw (c.first.ensures, c.second.ensures) c.in_ok-found.ensures
 
 -- where the quotient's row is made
 row_fits : (c : After-row_of-sent) → length c.args.row.now ≤ length c.row_of-sent.result
@@ -22,8 +22,8 @@ row_fits c = omega (arith, short c.requires, c.row_of-sent.ensures.long)
 pub radius-reach-requires : goal.radius-reach-requires
 radius-reach-requires c = enough c.requires
 
-pub returns-in_err-pair : goal.returns-in_err-pair
-returns-in_err-pair c = rw c.from_residual.ensures (no_pair c.requires c.in_err-pair.ensures)
+pub returns-in_err-found : goal.returns-in_err-found
+returns-in_err-found c = rw c.from_residual.ensures (no_pair c.requires c.in_err-found.ensures)
 
 pub quotient-message-requires : goal.quotient-message-requires
 quotient-message-requires c = rw c.field_of.ensures (dividing c.requires _ _ (pair (goal.at.quotient-message-requires c).After-second))
@@ -31,11 +31,11 @@ quotient-message-requires c = rw c.field_of.ensures (dividing c.requires _ _ (pa
 pub slice_bounds-sent-end : goal.slice_bounds-sent-end
 slice_bounds-sent-end c = row_fits (goal.at.slice_bounds-sent-end c).After-row_of-sent
 
-pub slice_bounds-rows-end : goal.slice_bounds-rows-end
-slice_bounds-rows-end c = sym (length-take-le _ _ (row_fits (goal.at.slice_bounds-rows-end c).After-row_of-sent))
+pub slice_bounds-compared-end : goal.slice_bounds-compared-end
+slice_bounds-compared-end c = sym (length-take-le _ _ (row_fits (goal.at.slice_bounds-compared-end c).After-row_of-sent))
 
-pub invariant_of-rows : goal.invariant_of-rows
-invariant_of-rows c = record { chunks = rows_ready c.requires _ _ c.row_of-sent.ensures }
+pub invariant_of-compared : goal.invariant_of-compared
+invariant_of-compared c = record { chunks = rows_ready c.requires _ _ c.row_of-sent.ensures }
 
 pub returns-then-reach-d : goal.returns-then-reach-d
 returns-then-reach-d c =

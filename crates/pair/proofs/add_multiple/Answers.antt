@@ -1,7 +1,7 @@
 -- `pair::add_multiple` meets its contract.
 use native.Mathlib.Omega.{arith}
 use lib.Seq.{length-take-le}
-use Rattle.pair.proofs.Spans.{span_tab, lent_behind, lent_before}
+use Rattle.theory.proofs.Spans.{span_tab, lent_behind, lent_before}
 use Rattle.pair.proofs.Multiples.{added_none, added_more, added_all}
 use Rattle.pair.proofs.add_multiple.Goals as goal
 

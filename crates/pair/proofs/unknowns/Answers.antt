@@ -4,11 +4,10 @@ use mathlib.Core.Path.{◌≡◌, ap, ◌∙◌}
 use native.Mathlib.Omega.{arith}
 use lib.Seq.{take_at, length-take-le}
 use Rattle.defs.specs.Place.{tab}
-use Rattle.theory.proofs.Fill.{filled_none, filled_next}
+use Rattle.theory.proofs.Fill.{filled_none, filled_next, filled_all}
 use Rattle.theory.proofs.Place.{length_tab}
 use Rattle.solve.specs.Table.{at}
 use Rattle.solve.specs.System.{free}
-use Rattle.pair.proofs.Spans.{filled_all}
 use Rattle.pair.proofs.unknowns.Goals as goal
 
 pub loop-a-init : goal.loop-a-init

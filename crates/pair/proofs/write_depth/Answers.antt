@@ -5,8 +5,7 @@ use native.Mathlib.Omega.{arith}
 use Rattle.defs.specs.Field.{add}
 use Rattle.theory.proofs.Field.{add_lt}
 use Rattle.pair.specs.Fill.{look}
-use Rattle.theory.proofs.Fill.{filled_none, filled_next}
-use Rattle.pair.proofs.Spans.{filled_all}
+use Rattle.theory.proofs.Fill.{filled_none, filled_next, filled_all}
 use Rattle.pair.proofs.Depths.{deeper_first, deeper_next}
 use Rattle.pair.proofs.write_depth.Goals as goal
 

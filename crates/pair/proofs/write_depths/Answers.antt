@@ -4,7 +4,7 @@ use native.Mathlib.Omega.{arith}
 use lib.Seq.{length-take-le, get_or-take}
 use Rattle.theory.proofs.Place.{zeros_zero}
 use Rattle.solve.specs.Table.{stride}
-use Rattle.pair.proofs.Spans.{span_tab, lent_before}
+use Rattle.theory.proofs.Spans.{span_tab, lent_before}
 use Rattle.pair.proofs.Depths.{powers_first, powers_more, powers_all}
 use Rattle.pair.proofs.write_depths.Goals as goal
 

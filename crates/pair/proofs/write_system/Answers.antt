@@ -9,7 +9,7 @@ use Rattle.theory.proofs.Order.{eq_lt}
 use Rattle.code.proofs.Outcome.{is_code}
 use Rattle.code.proofs.Known.{code_numbers, code_symbols, code_point}
 use Rattle.solve.specs.Table.{stride}
-use Rattle.pair.proofs.Spans.{span_part, lent_behind}
+use Rattle.theory.proofs.Spans.{span_part, lent_behind}
 use Rattle.pair.proofs.Systems.{zero_shape, chunk_fits, system_none, system_more, system_all}
 use Rattle.pair.proofs.write_system.Goals as goal
 use Rattle.pair.proofs.write_system.Goals.{In-loop-i}

@@ -1,13 +1,12 @@
--- `pair::add_products` meets its contract.
+-- `field::add_products` meets its contract.
 use Prim.Native.Nat.{ℕ}
 use mathlib.Core.Path.{◌≡◌, ap, ◌∙◌}
 use mathlib.Core.List.{List}
 use native.Mathlib.Omega.{arith}
-use lib.ListN.{get_or}
+use lib.ListN.{get_or, set}
 use Rattle.defs.specs.Field.{add}
-use Rattle.theory.proofs.Fill.{filled_none, filled_next}
-use Rattle.pair.proofs.Spans.{filled_all, filled_rest}
-use Rattle.pair.proofs.add_products.Goals as goal
+use Rattle.theory.proofs.Fill.{filled_none, filled_next, filled_all, filled_rest}
+use Rattle.field.proofs.add_products.Goals as goal
 
 pub loop-a-init : goal.loop-a-init
 loop-a-init c = filled_none _ 0 _
@@ -17,7 +16,8 @@ unfolding add
 loop-a-preserved c =
     let a = c.loop-a.a in
     let e : get_or c.loop-a.to a 0 ≡ get_or c.args.to.now a 0 = ap (λ (s : List ℕ). get_or s a 0) c.loop-a.invariant ∙ filled_rest _ _ a a (omega arith) in
-    rw (e, c.from.ensures, c.loop-a.invariant) (filled_next _ _ a (omega arith))
+    let product : ℕ = get_or c.args.products.now (get_or c.args.from.now a 0) 0 in
+    rw c.from.ensures (ap (λ (x : ℕ). set c.loop-a.to a (add x product)) e ∙ rw c.loop-a.invariant (filled_next _ _ a (omega arith)))
 
 pub returns : goal.returns
 returns c = c.loop-a.invariant ∙ filled_all _ _ _ (omega arith)

@@ -1,8 +1,8 @@
--- `slip::layout::field_of` meets its contract: one way out for each field, and one for none.
+-- `slip::layout::field_coded` meets its contract: one way out for each field, and one for none.
 use Rattle.std.proofs.Common.{[], ◌∷◌, arith}
 use lib.ListN.{get_or-eq_default}
 use Rattle.defs.specs.Slip.{width_of}
-use Rattle.slip.proofs.layout.field_of.Goals as goal
+use Rattle.slip.proofs.layout.field_coded.Goals as goal
 
 pub returns-in-0 : goal.returns-in-0
 unfolding width_of

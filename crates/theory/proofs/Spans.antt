@@ -1,30 +1,15 @@
--- Entries written side by side, in a part of the rows that is lent to be written.
+-- Entries written side by side, in a part of a list that is lent to be written.
 use Prim.Native.Nat.{ℕ, ◌+◌, ◌-◌, ◌^◌, ◌<◌, ◌≤◌}
 use mathlib.Core.Path.{◌≡◌, ap, ◌∙◌}
 use mathlib.Core.Logic.{⊎_elim}
-use mathlib.Core.List.{List, ◌++◌, append-nil}
+use mathlib.Core.List.{List, ◌++◌}
 use native.Mathlib.Omega.{arith}
-use lib.ListN.{length, get_or, take, drop, length-append, length-drop, drop_of_length-le, get_or-append}
+use lib.ListN.{length, get_or, take, drop, length-append, length-drop, get_or-append}
 use lib.Seq.{length-take-le, get_or-take, get_or-drop, get_or-append-add}
 use Rattle.defs.specs.Place.{tab, Symbols}
-use Rattle.theory.specs.Fill.{filled}
+use Rattle.theory.specs.Fill.{Span}
 use Rattle.theory.proofs.Order.{lt_or_le, eq_lt}
-use Rattle.theory.proofs.Fill.{filled_front}
 use Rattle.theory.proofs.Place.{length_tab, get_d_tab}
-use Rattle.pair.specs.Fill.{Span}
-
--- a whole list is filled
-pub filled_all : (d : List ℕ) (F : ℕ → ℕ) (n : ℕ) → n ≡ length d → filled d 0 F n ≡ tab F (length d)
-filled_all d F n e =
-    filled_front d F n ∙ ap (λ (s : List ℕ). tab F n ++ s) (drop_of_length-le d (omega arith)) ∙ append-nil (tab F n) ∙ ap (tab F) e
-
--- what is still to be filled
-pub filled_rest : (d : List ℕ) (F : ℕ → ℕ) (n i : ℕ) → n ≤ i → get_or (filled d 0 F n) i 0 ≡ get_or d i 0
-filled_rest d F n i h =
-    let e : i ≡ length (tab F n) + (i - n) = omega (arith, length_tab F n) in
-    let g : n + (i - n) ≡ i = omega arith in
-    ap (λ (s : List ℕ). get_or s i 0) (filled_front d F n) ∙ ap (λ (k : ℕ). get_or (tab F n ++ drop n d) k 0) e
-    ∙ get_or-append-add (tab F n) (drop n d) (i - n) 0 ∙ get_or-drop n d (i - n) 0 ∙ ap (λ (k : ℕ). get_or d k 0) g
 
 -- the n entries from base on are lent, and come back as the list part
 pub span_part : {t₀ front back : List ℕ} {base n : ℕ} {g : ℕ → ℕ} (part : List ℕ) → base + n ≤ length t₀ → front ≡ take base t₀ → back ≡ drop base t₀ → length part ≡ n
