@@ -1,6 +1,6 @@
 // Each call, and the line that says what it answered and what its buffers hold afterwards.
 use crate::frame::Numbers;
-use crate::show::{Answered, Hex, Reading};
+use crate::show;
 use defs::Refusal;
 use std::io;
 
@@ -14,14 +14,16 @@ pub struct Case<'a> {
 }
 
 // The line of a call that fills one buffer.
-fn show(rt: &impl Print, a: Result<usize, Refusal>, buffer: &[u8]) -> io::Result<()> {
-    println!(rt; "{} {}", Answered(a), Hex(buffer))
+fn filled(rt: &impl Print, a: Result<usize, Refusal>, buffer: &[u8]) -> io::Result<()> {
+    show::answer(rt, a)?;
+    show::buffer(rt, buffer)?;
+    println!(rt)
 }
 
 pub fn encode(rt: &impl Print, case: Case<'_>, row: &mut [u8]) -> io::Result<()> {
     let Numbers { m, r, k, .. } = case.numbers;
     let a = rows::encode(m, r, k, case.first, case.second, row);
-    show(rt, a, row)
+    filled(rt, a, row)
 }
 
 pub fn decode(
@@ -32,18 +34,22 @@ pub fn decode(
 ) -> io::Result<()> {
     let Numbers { m, r, k, .. } = case.numbers;
     let a = decode::decode(m, r, k, case.first, case.second, message, depths);
-    println!(rt; "{} {} {}", Answered(a), Hex(message), Hex(depths))
+    show::answer(rt, a)?;
+    show::buffer(rt, message)?;
+    show::buffer(rt, depths)?;
+    println!(rt)
 }
 
 pub fn distance(rt: &impl Print, case: Case<'_>) -> io::Result<()> {
     let a = rows::distance(case.numbers.r, case.first, case.second);
-    println!(rt; "{}", Answered(a))
+    show::answer(rt, a)?;
+    println!(rt)
 }
 
 pub fn slip_write(rt: &impl Print, case: Case<'_>, bytes: &mut [u8]) -> io::Result<()> {
     let Numbers { edition, m, r, k } = case.numbers;
     let a = slip::slip_write(edition, m, r, k, case.first, case.second, bytes);
-    show(rt, a, bytes)
+    filled(rt, a, bytes)
 }
 
 pub fn slip_read(
@@ -53,7 +59,10 @@ pub fn slip_read(
     row: &mut [u8],
 ) -> io::Result<()> {
     let s = slip::slip_read(case.first, points, row);
-    println!(rt; "{} {} {}", Reading(s), Hex(points), Hex(row))
+    show::reading(rt, s)?;
+    show::buffer(rt, points)?;
+    show::buffer(rt, row)?;
+    println!(rt)
 }
 
 // Any call that reads one slice and fills one buffer.
@@ -66,12 +75,13 @@ pub fn fill<F: Fn(&[u8], &mut [u8]) -> Result<usize, Refusal>>(
     requires { F.IsAlwaysCallable call }
 {
     let a = call(case.first, buffer);
-    show(rt, a, buffer)
+    filled(rt, a, buffer)
 }
 
 // The size of the first slip stands where another call has its detail.
 pub fn roll_first(rt: &impl Print, case: Case<'_>) -> io::Result<()> {
     let number = answers::number_in(roll::roll_answer(case.first));
     let size = roll::roll_first(case.first).len();
-    println!(rt; "{number} {size}")
+    show::numbers(rt, number, size)?;
+    println!(rt)
 }

@@ -35,6 +35,17 @@ pub position_high : (m : ℕ) (s : List ℕ) → position (λ x. leb (2 ^ m) x) 
 unfolding first_high
 position_high m s = ap (λ (i : ℕ). found i (length s)) (least_position (λ x. leb (2 ^ m) x) s)
 
+-- a search stops at the least index that passes, or meets none
+found_here : (p : ℕ → Bool) (n i : ℕ) → i < n → ((j : ℕ) → j < i → p j ≡ false) → p i ≡ true → Some i ≡ found (least p n) n
+found_here p n i l e t =
+    let q : i ≡ least p n = found_least _ _ _ (omega arith) e t in
+    rw (← q, lt-ltb i n l)
+
+found_none : (p : ℕ → Bool) (n : ℕ) → ((j : ℕ) → j < n → p j ≡ false) → None ≡ found (least p n) n
+found_none p n e =
+    let q : n ≡ least p n = none_least _ n _ (omega arith) (omega arith) e in
+    rw (← q, le-ltb n n (omega arith))
+
 -- what a search answers decides a refusal x
 module _ (x : ℕ → Refusal) (v : Verdict) (h n : ℕ) where
   pub found_refused : (i : ℕ) → Some i ≡ found h n → refuse (ltb h n) (x h) v ≡ Err (x i)
@@ -116,12 +127,18 @@ module _ (s : List ℕ) (i : ℕ) (seen : List Bool) (h : Seen s i seen) where
 pub twice_found : (s : List ℕ) (i : ℕ) → i < length s → ((j : ℕ) → j < i → twice_at s j ≡ false) → twice_at s i ≡ true
     → Some i ≡ found (first_twice s) (length s)
 unfolding first_twice
-twice_found s i l e t =
-    let q : i ≡ first_twice s = found_least _ _ _ (omega arith) e t in
-    rw (← q, lt-ltb i (length s) l)
+twice_found s i l e t = found_here (twice_at s) (length s) i l e t
 
 pub twice_none : (s : List ℕ) → ((j : ℕ) → j < length s → twice_at s j ≡ false) → None ≡ found (first_twice s) (length s)
 unfolding first_twice
-twice_none s e =
-    let q : length s ≡ first_twice s = none_least _ (length s) _ (omega arith) (omega arith) e in
-    rw (← q, le-ltb (length s) (length s) (omega arith))
+twice_none s e = found_none (twice_at s) (length s) e
+
+-- the least index of a symbol outside the field, likewise
+pub high_found : (m : ℕ) (s : List ℕ) (i : ℕ) → i < length s → ((j : ℕ) → j < i → leb (2 ^ m) (get_or s j 0) ≡ false) → leb (2 ^ m) (get_or s i 0) ≡ true
+    → Some i ≡ position (λ x. leb (2 ^ m) x) s
+unfolding first_high
+high_found m s i l e t = found_here (λ j. leb (2 ^ m) (get_or s j 0)) (length s) i l e t ∙ sym (position_high m s)
+
+pub high_none : (m : ℕ) (s : List ℕ) → ((j : ℕ) → j < length s → leb (2 ^ m) (get_or s j 0) ≡ false) → None ≡ position (λ x. leb (2 ^ m) x) s
+unfolding first_high
+high_none m s e = found_none (λ j. leb (2 ^ m) (get_or s j 0)) (length s) e ∙ sym (position_high m s)

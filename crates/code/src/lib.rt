@@ -17,11 +17,17 @@ use defs::{Code, DEEPEST, LONGEST, Refusal};
 use field::Field;
 
 // The least index of a symbol outside the field.
-fn first_high(field: Field, s: &[u8]) -> Option<usize>
+pub fn first_high(field: Field, s: &[u8]) -> Option<usize>
     ensures { result ≡ position (λ x. nat_le (2 ^ field.m) x) s.now }
 {
     let size = field.size();
-    s.iter().position(|&x| size <= usize::from(x))
+    // By a range, so that where it ends can be read.
+    for i in 0..s.len() {
+        if size <= usize::from(s[i]) {
+            return Some(i);
+        }
+    }
+    None
 }
 
 // The least index whose point equals an earlier one. seen marks the points passed.

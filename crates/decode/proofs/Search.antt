@@ -8,6 +8,7 @@ use lib.ListN.{length, take}
 use lib.Seq.{ext_get_or, get_or-take}
 use Rattle.defs.specs.Row.{Message, row_of}
 use Rattle.defs.specs.Distance.{distance, radius, reach, Near}
+use Rattle.defs.specs.Limits.{longest}
 use Rattle.defs.specs.Pair.{IsPair}
 use Rattle.defs.specs.declared.Code.{Code}
 use Rattle.theory.specs.Limits.{Numbers}
@@ -17,6 +18,7 @@ use Rattle.code.specs.Checked.{points_of, IsCode}
 use Rattle.code.proofs.Outcome.{is_code}
 use Rattle.rows.specs.Chunk.{Rows}
 use Rattle.pair.specs.Found.{IsRow}
+use Rattle.pair.proofs.Outcome.{short}
 use Rattle.quotient.specs.Quotient.{Dividing, Quotient}
 use Rattle.decode.specs.Search.{Candidate, Sent, Nearby, IsSought}
 use Rattle.decode.proofs.Outcome.{front_message, rows_front}
@@ -36,6 +38,11 @@ module _ {c : Code} {w : List ℕ} (row : IsRow c w) where
 
   long : length w ≡ c.r * length points
   long = row.size ∙ ap (λ (i : ℕ). c.r * i) (sym is.counted)
+
+  -- no radius is above the longest row
+  pub radius_short : (t : ℕ) → t ≡ radius (length w) c.k → t ≤ longest
+  unfolding radius
+  radius_short t e = omega (arith, short row)
 
   -- no pair, and so no message
   pub no_pair : ((Q₀ Q₁ : List ℕ) → PairOf Q₀ Q₁ → ⊥) → IsSought c w None

@@ -34,7 +34,10 @@ fn seek(code: &Code, row: &[u8]) -> Option<Sought>
 {
     let n = row.len();
     let reach = pair::radius(n, code.k);
-    let found = pair::find_pair(code, row)?;
+    // No `?`, so that the way out without a pair can be read.
+    let Some(found) = pair::find_pair(code, row) else {
+        return None; // no pair exists
+    };
     let message = quotient::quotient(code::field_of(code), code.k, found.first(), found.second());
     let sent = row_of(code, &message, n);
     let compared = TwoRows {

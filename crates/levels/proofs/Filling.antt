@@ -45,7 +45,7 @@ pub record Filling (text : List ℕ) (q r : ℕ) (at : ℕ) (rest row : List ℕ
 module _ (text : List ℕ) (q r : ℕ) where
   module _ (i : ℕ) (rest row : List ℕ) (h : Filling text q r (i * r) rest row) where
     module _ (some : 0 < r) (l : i < length row / r) where
-      chunk_room : i * r + r ≤ length row
+      pub chunk_room : i * r + r ≤ length row
       chunk_room = omega (arith, mul-le-mul_right r l, div-mul-le_self (length row) r, suc-mul i r)
 
       rest_some : 0 < length rest

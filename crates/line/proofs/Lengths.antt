@@ -16,26 +16,26 @@ use Rattle.line.specs.Text.{room}
 use Rattle.text.proofs.Decimal.{length_decimal, decimal_top}
 use Rattle.std.proofs.Common.{Err, Ok}
 
-length_heading : (a : Answer) → length (heading a) ≡ length (decimal (number a)) + suc (length (decimal (detail a)))
+pub length_heading : (a : Answer) → length (heading a) ≡ length (decimal (number a)) + suc (length (decimal (detail a)))
 unfolding heading
 length_heading a = length-append (decimal (number a)) (32 ∷ decimal (detail a))
 
-length_refused : (x : Refusal) (message depth : List ℕ) → length (line_of (Err x) message depth) ≡ length (heading (Err x)) + 1
+pub length_refused : (x : Refusal) (message depth : List ℕ) → length (line_of (Err x) message depth) ≡ length (heading (Err x)) + 1
 unfolding line_of
 length_refused x message depth = length-append (heading (Err x)) (10 ∷ [])
 
 -- numbers behind spaces, of at most d + 1 digits each
-length_spaced : (d : ℕ) (s : List ℕ) → ((i : ℕ) → get_or s i 0 < 10 ^ suc d) → length (spaced s) ≤ suc (suc d) * length s
+pub length_spaced : (d : ℕ) (s : List ℕ) → ((i : ℕ) → get_or s i 0 < 10 ^ suc d) → length (spaced s) ≤ suc (suc d) * length s
 unfolding spaced
 length_spaced d [] h = zero-le
 length_spaced d (x ∷ s) h =
     omega (arith, length-append (32 ∷ decimal x) (spaced s), length_decimal d x (h 0), length_spaced d s (λ i. h (suc i)), mul-suc (suc (suc d)) (length s))
 
-length_listed : (s : List ℕ) → length (listed s) ≡ suc (suc (length (spaced s)))
+pub length_listed : (s : List ℕ) → length (listed s) ≡ suc (suc (length (spaced s)))
 unfolding listed
 length_listed s = refl
 
-length_done : (d : ℕ) (message depth : List ℕ)
+pub length_done : (d : ℕ) (message depth : List ℕ)
     → length (line_of (Ok d) message depth) ≡ length (heading (Ok d)) + (length (listed message) + (length (listed depth) + 1))
 unfolding line_of
 length_done d message depth =

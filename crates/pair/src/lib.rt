@@ -103,8 +103,9 @@ fn write_chunk(rows: &mut [u8], field: Field, sizes: Sizes, point: u8, chunk: &[
 {
     let r = chunk.len();
     write_depths(rows, field, point, r, sizes.s0);
-    for (b, symbol) in chunk.iter().enumerate() {
-        add_multiple(rows, field, sizes, *symbol, b, r);
+    // By a range, so that where it begins can be read.
+    for b in 0..r {
+        add_multiple(rows, field, sizes, chunk[b], b, r);
     }
 }
 

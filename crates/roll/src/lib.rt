@@ -28,7 +28,10 @@ pub fn first_size(roll: &[u8]) -> usize
 pub fn roll_answer(roll: &[u8]) -> Result<usize, Refusal>
     ensures { result ≡ answer (roll_verdict roll.now) 0 }
 {
-    first_end(roll)?;
+    // No `?`, so that the refusal that is handed up can be read.
+    if let Err(x) = first_end(roll) {
+        return Err(x);
+    }
     Ok(0)
 }
 

@@ -13,6 +13,7 @@ use Rattle.std.proofs.lemmas.List.Sums.{take_while-cons}
 use Rattle.defs.specs.Place.{least}
 use Rattle.defs.specs.Distance.{agree}
 use Rattle.defs.specs.Limits.{deepest}
+use Rattle.theory.proofs.Agree.{agree_ext}
 use Rattle.code.specs.Chunk.{chunk_of}
 use Rattle.code.proofs.Chunks.{chunk_at, length_chunk, chunk_behind}
 use Rattle.rows.specs.Chunk.{common_front}
@@ -36,3 +37,9 @@ front_agrees (x ∷ u) (y ∷ v) e = rw (take_while-cons (λ p. eqb p.0 p.1) (x,
         → length (cond b ((x, y) ∷ take_while (λ p. eqb p.0 p.1) (zip u v)) []) ≡ cond (not b) 0 (suc (least (λ j. not (eqb (get_or u j 0) (get_or v j 0))) (length u)))
     go true h = ap suc h
     go false h = refl
+
+-- what chunks of r symbols have alike in front is the depth to which they agree
+pub front_is : (r : ℕ) (F G : ℕ → ℕ) (u v : List ℕ) → length u ≡ r → length v ≡ r → ((j : ℕ) → j < r → get_or u j 0 ≡ F j)
+    → ((j : ℕ) → j < r → get_or v j 0 ≡ G j) → common_front u v ≡ agree r F G
+front_is r F G u v d e f g =
+    front_agrees u v (d ∙ sym e) ∙ ap (λ (n : ℕ). agree n (λ j. get_or u j 0) (λ j. get_or v j 0)) d ∙ agree_ext r _ _ _ _ f g

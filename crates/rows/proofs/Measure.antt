@@ -1,6 +1,6 @@
 -- Damage and distance as the loops find them.
 use Prim.Native.Nat.{ℕ, ◌+◌, ◌*◌, ◌-◌, ◌<◌, ◌≤◌}
-use mathlib.Core.Path.{◌≡◌, refl, ap, sym, ◌∙◌}
+use mathlib.Core.Path.{◌≡◌, refl, ap, ◌∙◌}
 use mathlib.Core.List.{List}
 use native.Mathlib.Nat.{mul-le-mul_right, suc-mul}
 use native.Mathlib.Numerals.{add-one}
@@ -9,10 +9,10 @@ use lib.ListN.{length, get_or, take, drop, length-drop}
 use lib.Seq.{length-take-le, get_or-drop}
 use Rattle.std.proofs.lemmas.List.{get_or-take}
 use Rattle.defs.specs.Place.{total}
-use Rattle.defs.specs.Distance.{symbol, agree, agree_at, damage, distance}
-use Rattle.theory.proofs.Agree.{agree_le, agree_ext}
+use Rattle.defs.specs.Distance.{symbol, agree_at, damage, distance}
+use Rattle.theory.proofs.Agree.{agree_le}
 use Rattle.rows.specs.Chunk.{common_front, Rows}
-use Rattle.rows.proofs.Chunks.{front_agrees}
+use Rattle.rows.proofs.Chunks.{front_is}
 
 -- chunk i ends within a row of count chunks
 pub chunk_within : (r i count n : ℕ) → i < count → count * r ≤ n → i * r + r ≤ n
@@ -35,10 +35,8 @@ module _ (r : ℕ) (u w : List ℕ) where
       → common_front (take (i * r + r - i * r) (drop (i * r) u)) (take (i * r + r - i * r) (drop (i * r) w)) ≡ agree_at r u w i
   unfolding agree_at chunk
   front_at i count h b =
-      let e : length (chunk u i) ≡ r = long u i (chunk_within r i count (length u) b h.left) in
-      front_agrees (chunk u i) (chunk w i) (e ∙ sym (long w i (chunk_within r i count (length w) b h.right)))
-      ∙ ap (λ (n : ℕ). agree n (λ j. get_or (chunk u i) j 0) (λ j. get_or (chunk w i) j 0)) e
-      ∙ agree_ext r _ _ _ _ (symbol_at u i) (symbol_at w i)
+      front_is r (symbol r u i) (symbol r w i) (chunk u i) (chunk w i)
+      (long u i (chunk_within r i count (length u) b h.left)) (long w i (chunk_within r i count (length w) b h.right)) (symbol_at u i) (symbol_at w i)
 
   -- s symbols in front of chunk i are alike in both rows
   pub damage_found : (i count s : ℕ) → Rows r count u w → i < count

@@ -1,6 +1,6 @@
 -- A row that is written chunk after chunk.
-use Prim.Native.Nat.{ℕ, ◌+◌, ◌*◌, ◌<◌, ◌≤◌}
-use mathlib.Core.Path.{◌≡◌, refl, ap, sym, ◌∙◌}
+use Prim.Native.Nat.{ℕ, ◌+◌, ◌*◌, ◌^◌, ◌<◌, ◌≤◌}
+use mathlib.Core.Path.{◌≡◌, refl, ap, sym, subst, ◌∙◌}
 use mathlib.Core.List.{List, ◌++◌, append-nil, append_assoc}
 use native.Mathlib.Nat.{mul_comm, zero-mul, suc-mul}
 use native.Mathlib.Numerals.{add-one}
@@ -15,8 +15,10 @@ use Rattle.theory.specs.Fill.{filled}
 use Rattle.theory.specs.Limits.{Numbers}
 use Rattle.theory.proofs.Place.{tab_same, tab_take}
 use Rattle.theory.proofs.Row.{length_row, row_step}
-use Rattle.code.proofs.Known.{code_numbers}
+use Rattle.code.proofs.Known.{code_numbers, code_symbols, code_point}
 use Rattle.code.specs.Chunk.{chunk_of}
+use Rattle.rows.specs.Tables.{PowersOf, LogsFor, LogsOf}
+use Rattle.rows.specs.Chunk.{Evaluable}
 use Rattle.code.proofs.Outcome.{is_code}
 use Rattle.code.proofs.Chunks.{chunk_at}
 
@@ -67,3 +69,18 @@ module _ (m r : ℕ) (points f old : List ℕ) where
 -- a message of a code is no longer than a row
 pub short : (c : Code) (f : List ℕ) → Message c.m c.k f → length f ≤ longest
 short c f h = let n : Numbers c.m c.r c.k c.count = code_numbers (is_code c) in omega (arith, h.size, n.k_top, n.row_top)
+
+-- the tables of a code's message and one of its points are what `evaluate` asks for
+pub evaluable : (c : Code) (f : List ℕ) → Message c.m c.k f → (symbols logs powers : List ℕ) → LogsOf c.m f symbols → LogsFor c.m logs → PowersOf c.m powers
+    → (i : ℕ) → i < c.count → Evaluable c.m c.r (get_or c.points i 0) f symbols logs powers
+evaluable c f h symbols logs powers s g p i l =
+    let n : Numbers c.m c.r c.k c.count = code_numbers (is_code c) in record {
+      width = n.width;
+      short = short c f h;
+      symbols_are = s;
+      powers_are = p;
+      depth = (n.r_pos, n.r_top);
+      point = subst (λ (P : ℕ). P < 2 ^ c.m) (sym (code_point (is_code c) i l)) (code_symbols (is_code c) i);
+      message = h.symbols;
+      logs_are = g;
+    }

@@ -1,16 +1,17 @@
 // The row of a message, chunk after chunk; the damage and the distance of two rows; the calls encode and distance.
 #![tactic(auto)]
 
-ghost use Rattle.std.specs.Prelude.{◌≡◌, ◌+◌, ◌*◌, ◌^◌, ◌<◌, ◌≤◌, length};
+ghost use Rattle.std.specs.Prelude.{◌≡◌, ◌+◌, ◌*◌, ◌^◌, ◌<◌, ◌≤◌, length, get_or};
 ghost use Rattle.defs.specs.Place.{Symbols};
 ghost use Rattle.defs.specs.Row.{coefficient, row_of};
-ghost use Rattle.defs.specs.Distance.{damage, distance};
+ghost use Rattle.defs.specs.Distance.{agree, damage, distance};
 ghost use Rattle.defs.specs.Limits.{deepest, longest};
 ghost use Rattle.defs.specs.Encode.{Encoded, distance_verdict, distance_answer};
+ghost use Rattle.theory.specs.Fill.{filled};
 ghost use Rattle.code.specs.Checked.{points_of};
 ghost use Rattle.rows.specs.Tables.{PowersOf, LogsFor, LogsOf, ProductLog, ExponentsOf};
 ghost use Rattle.code.specs.Chunk.{chunk_of};
-ghost use Rattle.rows.specs.Chunk.{common_front, Writable, Rows};
+ghost use Rattle.rows.specs.Chunk.{Evaluable, common_front, Writable, Rows};
 
 use defs::{Code, DEEPEST, LONGEST, Refusal};
 use field::{Field, POWERS};
@@ -146,9 +147,40 @@ impl Terms<'_> {
         let mut exponents = [0; LONGEST];
         for (i, &point) in points.iter().enumerate() {
             let chunk = self.chunk_at(point, r, &mut exponents);
-            row[i * r..i * r + r].copy_from_slice(&chunk[..r]);
+            store(row, i * r, r, chunk);
         }
     }
+}
+
+// The chunk of a message at a point, its first r Hasse coefficients, for a caller outside who has the tables at hand. A row is written by Terms, to which they are lent once.
+pub fn evaluate(
+    m: usize,
+    r: usize,
+    point: u8,
+    message: &[u8],
+    symbols: &[usize; LONGEST],
+    logs: &[usize; 256],
+    powers: &[u8; PLACES],
+) -> [u8; DEEPEST]
+    requires { Evaluable m r point message.now symbols.now logs.now powers.now }
+    ensures { result ≡ chunk_of r (coefficient m message.now point) }
+{
+    let terms = Terms {
+        field: Field { m },
+        message,
+        powers,
+        logs,
+        symbols,
+    };
+    terms.chunk_at(point, r, &mut [0; LONGEST])
+}
+
+// Writes a chunk into a row.
+pub fn store(row: &mut [u8], at: usize, r: usize, chunk: [u8; DEEPEST])
+    requires { (r ≤ deepest) × (at + r ≤ length row.old) }
+    ensures { row.new ≡ filled row.old at (λ j. get_or chunk j 0) r }
+{
+    row[at..at + r].copy_from_slice(&chunk[..r]);
 }
 
 // Writes the row of a message.
@@ -170,12 +202,20 @@ pub fn write_row(code: &Code, message: &[u8], row: &mut [u8])
     terms.write(&code.points[..code.count], code.r, row);
 }
 
-// The depth to which two chunks agree.
-fn agree(a: &[u8], b: &[u8]) -> usize
+// The number of symbols in front that two chunks have alike.
+fn common_front(a: &[u8], b: &[u8]) -> usize
     requires { length a.now ≡ length b.now }
     ensures { result ≡ common_front a.now b.now }
 {
     a.iter().zip(b).take_while(|(x, y)| x == y).count()
+}
+
+// The depth to which two chunks of depth r agree.
+pub fn agree(a: [u8; DEEPEST], b: [u8; DEEPEST], r: usize) -> usize
+    requires { r ≤ deepest }
+    ensures { result ≡ agree r (λ j. get_or a j 0) (λ j. get_or b j 0) }
+{
+    common_front(&a[..r], &b[..r])
 }
 
 // Two rows of count chunks, each r deep, that are compared.
@@ -196,7 +236,7 @@ impl TwoRows<'_> {
     {
         let at = i * self.r;
         let end = at + self.r;
-        self.r - agree(&self.a[at..end], &self.b[at..end])
+        self.r - common_front(&self.a[at..end], &self.b[at..end])
     }
 
     // The depths of damage in all chunks, added up.

@@ -1,7 +1,7 @@
 // The two editions of slips, and how each lays one out: the bits of its fields, and its size.
 ghost use Rattle.std.specs.Prelude.{◌≡◌, false, ◌*◌, ◌<◌, ◌≤◌, MatchOption};
 ghost use Rattle.defs.specs.Limits.{longest};
-ghost use Rattle.defs.specs.Slip.{head_bits, slip_size, width_of, field_code};
+ghost use Rattle.defs.specs.Slip.{layout_of, head_bits, slip_size, width_of, field_code};
 ghost use Rattle.slip.specs.Laid.{Laid};
 ghost use Rattle.slip.specs.Edition.{number, layout, Known};
 
@@ -79,6 +79,13 @@ impl Edition {
     {
         self.head_bits() / 8 + (symbols * m + 7) / 8
     }
+}
+
+// The layout of the edition with this number. A number of no known edition has the old layout, as in the definition, so that none is refused here.
+pub fn layout_of(edition: usize) -> Layout
+    ensures { result ≡ layout_of edition }
+{
+    Edition::try_from(edition).unwrap_or(Edition::Old).layout()
 }
 
 // The code of a field: 0, 1, 2 for m of 2, 4, 8.

@@ -6,7 +6,7 @@ mod read;
 mod write;
 
 use defs::LONGEST;
-pub use layout::Edition;
+pub use layout::{Edition, layout_of};
 pub use read::{edition_in, first_size, slip_read};
 pub use write::slip_write;
 

@@ -177,7 +177,10 @@ pub fn slip_read(bytes: &[u8], points: &mut [u8], row: &mut [u8]) -> Result<Slip
     ensures { Read bytes.now points.old row.old result points.new row.new }
 {
     let slip = open(bytes)?;
-    slip.check(points.len(), row.len())?;
+    // No `?`, so that what is handed out on a refusal can be read.
+    if let Err(x) = slip.check(points.len(), row.len()) {
+        return Err(x);
+    }
     slip.take(0, &mut points[..slip.count]);
     slip.take(slip.count, &mut row[..slip.row_len()]);
     Ok(slip.numbers())

@@ -66,7 +66,7 @@ module _ (top : ℕ) where
   unfolding capped
   capped_high v h = rw (lt-leb v top h)
 
-  low_capped : (x v : ℕ) → Some x ≡ capped top v → (x ≡ v) × (v ≤ top)
+  pub low_capped : (x v : ℕ) → Some x ≡ capped top v → (x ≡ v) × (v ≤ top)
   unfolding capped
   low_capped x v e = go (leb v top) refl e
     where
@@ -74,7 +74,7 @@ module _ (top : ℕ) where
       go true q e = (cc, leb-true v top q)
       go false q e = absurd (let z : ◌≡◌ {A = ℕ} 0 1 = cc in omega arith)
 
-  high_capped : (v : ℕ) → None ≡ capped top v → top < v
+  pub high_capped : (v : ℕ) → None ≡ capped top v → top < v
   unfolding capped
   high_capped v e = go (leb v top) refl e
     where

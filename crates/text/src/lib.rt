@@ -1,4 +1,4 @@
-// A text that is written piece behind piece, with decimal numbers in it, and handed out to a caller.
+// Text and decimal numbers written piece behind piece, into a buffer or a text of its own, and handed out to a caller.
 #![tactic(auto)]
 
 mod number;
@@ -7,6 +7,7 @@ ghost use Rattle.std.specs.Prelude.{◌≡◌, [], ◌∷◌, ◌++◌, ◌+◌,
 ghost use Rattle.defs.specs.Text.{decimal};
 ghost use Rattle.defs.specs.Write.{front};
 ghost use Rattle.text.specs.Handed.{Handed};
+ghost use Rattle.text.specs.Piece.{Wrote};
 
 use defs::Refusal;
 pub use number::{Number, read_number};
@@ -27,6 +28,43 @@ fn write_digits(x: usize, bytes: &mut [u8]) -> usize
     let count = write_digits(x / 10, bytes);
     bytes[count] = b'0' + (x % 10) as u8;
     count + 1
+}
+
+// One byte at a place of a text. Answers where the next one goes, as the two below do.
+pub fn put(text: &mut [u8], at: usize, byte: u8) -> usize
+    requires { at < length text.old }
+    ensures { Wrote text.old at (byte ∷ []) text.new result }
+{
+    text[at] = byte;
+    at + 1
+}
+
+// A number, without leading zeros.
+pub fn put_number(text: &mut [u8], at: usize, x: usize) -> usize
+    requires { at + length (decimal x) ≤ length text.old }
+    ensures { Wrote text.old at (decimal x) text.new result }
+{
+    at + write_digits(x, &mut text[at..])
+}
+
+// A number behind a space.
+pub fn put_spaced(text: &mut [u8], at: usize, x: usize) -> usize
+    requires { at + length (32 ∷ decimal x) ≤ length text.old }
+    ensures { Wrote text.old at (32 ∷ decimal x) text.new result }
+{
+    let next = put(text, at, b' ');
+    put_number(text, next, x)
+}
+
+// Hands out a text, or refuses a buffer that is too short for it.
+pub fn hand_out(words: &[u8], text: &mut [u8]) -> Result<usize, Refusal>
+    ensures { Handed words.now text.old result text.new }
+{
+    if text.len() < words.len() {
+        return Err(Refusal::Length);
+    }
+    code::copy(words, text);
+    Ok(words.len())
 }
 
 // A text of at most N bytes, as far as it is written.
@@ -61,8 +99,7 @@ impl<const N: usize> Text<N> {
         requires { length self.old < N }
         ensures { self.new ≡ self.old ++ byte ∷ [] }
     {
-        self.bytes[self.len] = byte;
-        self.len += 1;
+        self.len = put(&mut self.bytes, self.len, byte);
     }
 
     // A number, without leading zeros.
@@ -87,11 +124,6 @@ impl<const N: usize> Text<N> {
     pub fn hand_out(&self, text: &mut [u8]) -> Result<usize, Refusal>
         ensures { Handed self.now text.old result text.new }
     {
-        let words = &self.bytes[..self.len];
-        if text.len() < words.len() {
-            return Err(Refusal::Length);
-        }
-        code::copy(words, text);
-        Ok(words.len())
+        hand_out(&self.bytes[..self.len], text)
     }
 }
